@@ -1,0 +1,2 @@
+-- Definitions stand in Word, their laws in Word.Laws.
+pub mod Word

@@ -1,0 +1,46 @@
+-- Readers past the end, products of 16-bit numbers, and parts of a list. Assumes nothing.
+use mathlib.Core.Path.{_≡_, sym, ap, _∙_}
+use mathlib.Core.List.{List}
+use Prim.Native.Nat.{ℕ, _+_, _-_, _*_, _≤_, _<_}
+use native.Mathlib.Nat.{mul-le-mul}
+use native.Mathlib.Omega.{arith}
+use lib.ListN.{length, getD, drop, length-drop, drop-of-length-le, List·getD-eq-default}
+use lib.Seq.{take-all, take-nil}
+use Rattle.format.specs.Bytes.{le16, le32, le64, part, Value}
+
+pub past-byte : (b : List ℕ) (k : ℕ) → length b ≤ k → Value 256 (getD b k 0) 0
+past-byte b k h = record { is = sym (List·getD-eq-default b 0 h); small = omega arith }
+
+pub past16 : (b : List ℕ) (k : ℕ) → length b ≤ k → 0 ≡ le16 b k
+unfolding le16
+past16 b k h =
+    let h′ : length b ≤ k + 1 = omega arith in
+    omega (arith, List·getD-eq-default b 0 h, List·getD-eq-default b 0 h′)
+
+pub past32 : (b : List ℕ) (k : ℕ) → length b ≤ k → 0 ≡ le32 b k
+unfolding le32
+past32 b k h = omega (arith, past16 b k h, past16 b (k + 2) (omega arith))
+
+pub past64 : (b : List ℕ) (k : ℕ) → length b ≤ k → 0 ≡ le64 b k
+unfolding le64
+past64 b k h = omega (arith, past32 b k h, past32 b (k + 4) (omega arith))
+
+-- The product of two 16-bit numbers is a 32-bit number.
+pub product-small : (a b : ℕ) → a < 65536 → b < 65536 → a * b < 4294967296
+product-small a b h k =
+    let a′ : a ≤ 65535 = omega arith in
+    let b′ : b ≤ 65535 = omega arith in
+    let le : a * b ≤ 65535 * 65535 = mul-le-mul a′ b′ in
+    omega arith
+
+-- The parts that a section is cut from: past the end, up to the end, and inside.
+pub part-past : (b : List ℕ) (m k n : ℕ) → m ≡ length b → m ≤ k → part b m (m - m) ≡ part b k n
+part-past b m k n e h =
+    simp (drop-of-length-le b {i = m} (omega arith), drop-of-length-le b {i = k} (omega arith), take-nil)
+
+pub part-rest : (b : List ℕ) (m k n : ℕ) → m ≡ length b → m - k ≤ n → part b k (m - k) ≡ part b k n
+part-rest b m k n e h =
+    take-all (m - k) (drop k b) (simp length-drop (omega arith)) ∙ sym (take-all n (drop k b) (simp length-drop (omega arith)))
+
+pub part-inside : (b : List ℕ) (k n : ℕ) → part b k (k + n - k) ≡ part b k n
+part-inside b k n = ap (λ j. part b k j) (let e : k + n - k ≡ n = omega arith in e)

@@ -1,0 +1,3 @@
+-- Definitions stand in specs/X.antt, their laws below them in specs/X/.
+pub mod Bytes
+pub mod Format

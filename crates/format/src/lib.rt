@@ -1,0 +1,241 @@
+// The docket file: its header, its sections, and one reader for each field of each record. Every function is total: past the end of a slice a byte reads as 0.
+ghost use mathlib.Core.Path.{_≡_};
+ghost use Prim.Native.Nat.{_+_, _*_};
+ghost use lib.ListN.{getD};
+ghost use Rattle.format.specs.Bytes.{le16, le32, le64, part, Value};
+ghost use Rattle.format.specs.Format.{headerOf, statesLength, rulesLength, layersLength, nodesLength, leavesLength, flags, ruleP, ruleQ, ruleP′, ruleQ′, ruleLayer, layerWeight, nodeKind, nodeParty, nodeArgument, nodeSet, leafBits, biased};
+
+// How many records each section has.
+pub struct Sizes {
+    pub states: u16,
+    pub rules: u16,
+    pub layers: u16,
+    pub nodes: u16,
+    pub leaves: u16,
+}
+
+// Where each section begins, and the total length.
+pub struct Offsets {
+    pub states: u16,
+    pub rules: u16,
+    pub layers: u16,
+    pub nodes: u16,
+    pub leaves: u16,
+    pub total: u16,
+}
+
+pub struct Header {
+    pub version: u16,
+    pub sizes: Sizes,
+    pub at: Offsets,
+}
+
+fn wide(x: u8) -> usize
+    ensures { λ r. ⌜ Value 256 x r ⌝ }
+{
+    x as usize
+}
+
+// The byte at k.
+pub fn byte(b: &[u8], k: usize) -> usize
+    ensures { λ r. ⌜ Value 256 (getD (now (b .entry)) k 0) r ⌝ }
+{
+    if k < b.len() {
+        return wide(b[k]);
+    }
+    0
+}
+
+pub fn read16(b: &[u8], k: usize) -> u16
+    ensures { λ r. ⌜ r ≡ le16 (now (b .entry)) k ⌝ }
+{
+    if k < b.len() {
+        let v = byte(b, k) + 256 * byte(b, k + 1);
+        return v as u16;
+    }
+    0
+}
+
+pub fn read32(b: &[u8], k: usize) -> u32
+    ensures { λ r. ⌜ r ≡ le32 (now (b .entry)) k ⌝ }
+{
+    if k < b.len() {
+        let low = read16(b, k);
+        let high = read16(b, k + 2);
+        return (low as u32) + 65536 * (high as u32);
+    }
+    0
+}
+
+pub fn read64(b: &[u8], k: usize) -> u64
+    ensures { λ r. ⌜ r ≡ le64 (now (b .entry)) k ⌝ }
+{
+    if k < b.len() {
+        let low = read32(b, k);
+        let high = read32(b, k + 4);
+        return (low as u64) + 4294967296 * (high as u64);
+    }
+    0
+}
+
+// The n bytes from byte k on, or as many as there are.
+pub fn section(b: &[u8], k: usize, n: usize) -> &[u8]
+    ensures { λ r. ⌜ now r ≡ part (now (b .entry)) k n ⌝ }
+{
+    let len = b.len();
+    if len <= k {
+        return &b[len..len];
+    }
+    let rest = len - k;
+    if rest <= n {
+        return &b[k..len];
+    }
+    let end = k + n;
+    &b[k..end]
+}
+
+pub fn product(a: u16, b: u16) -> usize
+    ensures { λ r. ⌜ Value 4294967296 (a * b) r ⌝ }
+{
+    (a as usize) * (b as usize)
+}
+
+pub fn read_header(b: &[u8]) -> Header
+    ensures { λ r. ⌜ r ≡ headerOf (now (b .entry)) ⌝ }
+{
+    let sizes = Sizes {
+        states: read16(b, 2),
+        rules: read16(b, 4),
+        layers: read16(b, 6),
+        nodes: read16(b, 8),
+        leaves: read16(b, 10),
+    };
+    let at = Offsets {
+        states: read16(b, 12),
+        rules: read16(b, 14),
+        layers: read16(b, 16),
+        nodes: read16(b, 18),
+        leaves: read16(b, 20),
+        total: read16(b, 22),
+    };
+    Header {
+        version: read16(b, 0),
+        sizes,
+        at,
+    }
+}
+
+pub fn states_part(b: &[u8], h: Header) -> &[u8]
+    ensures { λ r. ⌜ now r ≡ part (now (b .entry)) (h .at .states) (statesLength (h .sizes)) ⌝ }
+{
+    section(b, h.at.states as usize, h.sizes.states as usize)
+}
+
+pub fn rules_part(b: &[u8], h: Header) -> &[u8]
+    ensures { λ r. ⌜ now r ≡ part (now (b .entry)) (h .at .rules) (rulesLength (h .sizes)) ⌝ }
+{
+    section(b, h.at.rules as usize, 5 * (h.sizes.rules as usize))
+}
+
+pub fn layers_part(b: &[u8], h: Header) -> &[u8]
+    ensures { λ r. ⌜ now r ≡ part (now (b .entry)) (h .at .layers) (layersLength (h .sizes)) ⌝ }
+{
+    section(
+        b,
+        h.at.layers as usize,
+        4 * product(h.sizes.layers, h.sizes.states),
+    )
+}
+
+pub fn nodes_part(b: &[u8], h: Header) -> &[u8]
+    ensures { λ r. ⌜ now r ≡ part (now (b .entry)) (h .at .nodes) (nodesLength (h .sizes)) ⌝ }
+{
+    section(b, h.at.nodes as usize, 12 * (h.sizes.nodes as usize))
+}
+
+pub fn leaves_part(b: &[u8], h: Header) -> &[u8]
+    ensures { λ r. ⌜ now r ≡ part (now (b .entry)) (h .at .leaves) (leavesLength (h .sizes)) ⌝ }
+{
+    section(
+        b,
+        h.at.leaves as usize,
+        4 * product(h.sizes.leaves, h.sizes.states),
+    )
+}
+
+pub fn state_flags(states: &[u8], s: u16) -> usize
+    ensures { λ x. ⌜ Value 256 (flags (now (states .entry)) s) x ⌝ }
+{
+    byte(states, s as usize)
+}
+
+pub fn rule_p(rules: &[u8], r: u16) -> usize
+    ensures { λ x. ⌜ Value 256 (ruleP (now (rules .entry)) r) x ⌝ }
+{
+    byte(rules, 5 * (r as usize))
+}
+
+pub fn rule_q(rules: &[u8], r: u16) -> usize
+    ensures { λ x. ⌜ Value 256 (ruleQ (now (rules .entry)) r) x ⌝ }
+{
+    byte(rules, 5 * (r as usize) + 1)
+}
+
+// p′ and q′, the after pair.
+pub fn rule_p_after(rules: &[u8], r: u16) -> usize
+    ensures { λ x. ⌜ Value 256 (ruleP′ (now (rules .entry)) r) x ⌝ }
+{
+    byte(rules, 5 * (r as usize) + 2)
+}
+
+pub fn rule_q_after(rules: &[u8], r: u16) -> usize
+    ensures { λ x. ⌜ Value 256 (ruleQ′ (now (rules .entry)) r) x ⌝ }
+{
+    byte(rules, 5 * (r as usize) + 3)
+}
+
+pub fn rule_layer(rules: &[u8], r: u16) -> usize
+    ensures { λ x. ⌜ Value 256 (ruleLayer (now (rules .entry)) r) x ⌝ }
+{
+    byte(rules, 5 * (r as usize) + 4)
+}
+
+// Layer l's weight of state s, where there are n states.
+pub fn layer_weight(layers: &[u8], n: u16, l: u16, s: u16) -> u32
+    ensures { λ x. ⌜ x ≡ layerWeight n (now (layers .entry)) l s ⌝ }
+{
+    read32(layers, 4 * (product(l, n) + (s as usize)))
+}
+
+pub fn node_kind(nodes: &[u8], i: u16) -> usize
+    ensures { λ x. ⌜ Value 256 (nodeKind (now (nodes .entry)) i) x ⌝ }
+{
+    byte(nodes, 12 * (i as usize))
+}
+
+pub fn node_party(nodes: &[u8], i: u16) -> usize
+    ensures { λ x. ⌜ Value 256 (nodeParty (now (nodes .entry)) i) x ⌝ }
+{
+    byte(nodes, 12 * (i as usize) + 1)
+}
+
+pub fn node_argument(nodes: &[u8], i: u16) -> u16
+    ensures { λ x. ⌜ x ≡ nodeArgument (now (nodes .entry)) i ⌝ }
+{
+    read16(nodes, 12 * (i as usize) + 2)
+}
+
+pub fn node_set(nodes: &[u8], i: u16) -> u64
+    ensures { λ x. ⌜ x ≡ nodeSet (now (nodes .entry)) i ⌝ }
+{
+    read64(nodes, 12 * (i as usize) + 4)
+}
+
+// Leaf l's weight of state s at end 1 (e is 0) or 2 (e is 1), plus 10,000, where there are n states.
+pub fn leaf_weight(leaves: &[u8], n: u16, l: u16, e: u16, s: u16) -> u32
+    ensures { λ x. ⌜ Value 65536 (biased (leafBits n (now (leaves .entry)) l e s)) x ⌝ }
+{
+    let at = 2 * (2 * product(l, n) + product(e, n) + (s as usize));
+    let bits = read16(leaves, at);
+    ((bits as u32) + 10000) % 65536
+}

@@ -1,0 +1,103 @@
+-- Dockets and what tests 1 to 8 say of them, by computation.
+use mathlib.Core.Path.{_≡_, refl}
+use mathlib.Core.List.{List, [], _∷_}
+use Prim.Native.Nat.{ℕ}
+use lib.ListN.{length, take, set}
+use Rattle.theory.specs.Below.{firstBelow, anyBelow}
+use Rattle.format.specs.Bytes.{le16, le32}
+use Rattle.format.specs.Format.{headerOf}
+use Rattle.shape.specs.Judge.{judge}
+use Rattle.shape.specs.Shape.{badState, repeats, badLayer, headerShape, shapeOf}
+use Rattle.shape.specs.declared.Shape.{Shape}
+use Rattle.shape.specs.declared.Shape.the-variants.{Sound, Refused}
+
+-- The broadcast docket of document 01, 99 bytes.
+abbrev pub broadcast : List ℕ
+broadcast =
+    1 ∷ 0 ∷ 2 ∷ 0 ∷ 1 ∷ 0 ∷ 1 ∷ 0 ∷ 5 ∷ 0 ∷ 0 ∷ 0 ∷ 24 ∷ 0 ∷ 26 ∷ 0 ∷ 31 ∷ 0 ∷ 39 ∷ 0 ∷ 99 ∷ 0 ∷ 99 ∷ 0
+    ∷ 2 ∷ 3
+    ∷ 0 ∷ 1 ∷ 1 ∷ 1 ∷ 0
+    ∷ 1 ∷ 0 ∷ 0 ∷ 0 ∷ 0 ∷ 0 ∷ 0 ∷ 0
+    ∷ 3 ∷ 1 ∷ 0 ∷ 0 ∷ 0 ∷ 0 ∷ 0 ∷ 0 ∷ 0 ∷ 0 ∷ 0 ∷ 0
+    ∷ 1 ∷ 1 ∷ 0 ∷ 0 ∷ 0 ∷ 0 ∷ 0 ∷ 0 ∷ 0 ∷ 0 ∷ 0 ∷ 0
+    ∷ 5 ∷ 1 ∷ 0 ∷ 0 ∷ 2 ∷ 0 ∷ 0 ∷ 0 ∷ 0 ∷ 0 ∷ 0 ∷ 0
+    ∷ 6 ∷ 2 ∷ 0 ∷ 0 ∷ 2 ∷ 0 ∷ 0 ∷ 0 ∷ 0 ∷ 0 ∷ 0 ∷ 0
+    ∷ 1 ∷ 2 ∷ 0 ∷ 0 ∷ 0 ∷ 0 ∷ 0 ∷ 0 ∷ 0 ∷ 0 ∷ 0 ∷ 0
+    ∷ []
+
+-- The majority table of document 01, with one node of zeros: the shape does not look at nodes.
+abbrev pub majority : List ℕ
+majority =
+    1 ∷ 0 ∷ 4 ∷ 0 ∷ 4 ∷ 0 ∷ 2 ∷ 0 ∷ 1 ∷ 0 ∷ 0 ∷ 0 ∷ 24 ∷ 0 ∷ 28 ∷ 0 ∷ 48 ∷ 0 ∷ 80 ∷ 0 ∷ 92 ∷ 0 ∷ 92 ∷ 0
+    ∷ 2 ∷ 3 ∷ 0 ∷ 1 ∷ 0 ∷ 1 ∷ 2 ∷ 3 ∷ 0 ∷ 0 ∷ 3 ∷ 0 ∷ 2 ∷ 0 ∷ 1 ∷ 2 ∷ 1 ∷ 3 ∷ 1 ∷ 2 ∷ 3 ∷ 3 ∷ 3 ∷ 1
+    ∷ 1 ∷ 0 ∷ 0 ∷ 0 ∷ 1 ∷ 0 ∷ 0 ∷ 0 ∷ 0 ∷ 0 ∷ 0 ∷ 0 ∷ 1 ∷ 0 ∷ 0 ∷ 0 ∷ 0 ∷ 0 ∷ 0 ∷ 0 ∷ 0 ∷ 0 ∷ 0 ∷ 0
+    ∷ 1 ∷ 0 ∷ 0 ∷ 0 ∷ 0 ∷ 0 ∷ 0 ∷ 0 ∷ 0 ∷ 0 ∷ 0 ∷ 0 ∷ 0 ∷ 0 ∷ 0 ∷ 0 ∷ 0 ∷ 0 ∷ 0 ∷ 0
+    ∷ []
+
+-- Number and place: 0, 0 for a sound shape.
+abbrev pub said : Shape → ℕ × ℕ
+said (Sound h) = (0, 0)
+said (Refused n k) = (n, k)
+
+-- Dockets, and edits of them at one byte or two, each with its number and place.
+abbrev pub samples : List (List ℕ × (ℕ × ℕ))
+samples =
+    (broadcast, (0, 0))
+    ∷ (take 98 broadcast, (1, 0))
+    ∷ (take 23 broadcast, (1, 0))
+    ∷ ([], (1, 0))
+    ∷ (set broadcast 0 2, (2, 0))
+    ∷ (set broadcast 2 1, (3, 0))
+    ∷ (set broadcast 2 65, (3, 0))
+    ∷ (set broadcast 5 2, (3, 1))
+    ∷ (set broadcast 6 0, (3, 2))
+    ∷ (set broadcast 6 17, (3, 2))
+    ∷ (set broadcast 4 0, (3, 2))
+    ∷ (set broadcast 8 0, (3, 3))
+    ∷ (set broadcast 9 9, (3, 3))
+    ∷ (set broadcast 10 129, (3, 4))
+    ∷ (set broadcast 12 25, (4, 0))
+    ∷ (set broadcast 14 27, (4, 1))
+    ∷ (set broadcast 16 32, (4, 2))
+    ∷ (set broadcast 18 40, (4, 3))
+    ∷ (set broadcast 20 98, (4, 4))
+    ∷ (set broadcast 10 1, (4, 5))
+    ∷ (set broadcast 24 4, (5, 0))
+    ∷ (set broadcast 25 7, (5, 1))
+    ∷ (set (set broadcast 24 0) 25 1, (5, 2))
+    ∷ (set broadcast 26 2, (6, 0))
+    ∷ (set broadcast 29 2, (6, 0))
+    ∷ (set broadcast 27 0, (0, 0))
+    ∷ (set (set broadcast 26 1) 27 0, (6, 0))
+    ∷ (set broadcast 28 0, (6, 0))
+    ∷ (set broadcast 30 1, (6, 0))
+    ∷ (set (set (set broadcast 31 64) 32 66) 33 15, (0, 0))
+    ∷ (set (set (set broadcast 31 65) 32 66) 33 15, (8, 0))
+    ∷ (majority, (0, 0))
+    ∷ (set majority 43 0, (7, 3))
+    ∷ (set (set majority 42 0) 47 0, (8, 1))
+    ∷ (set majority 78 16, (8, 1))
+    ∷ []
+
+abbrev answers : List (List ℕ × (ℕ × ℕ)) → List (ℕ × ℕ)
+answers [] = []
+answers (c ∷ cs) = said (shapeOf (c .0)) ∷ answers cs
+
+abbrev expected : List (List ℕ × (ℕ × ℕ)) → List (ℕ × ℕ)
+expected [] = []
+expected (c ∷ cs) = c .1 ∷ expected cs
+
+samples-right : answers samples ≡ expected samples
+unfolding shapeOf headerShape judge badState repeats badLayer firstBelow anyBelow le16 le32
+samples-right = refl
+
+pub broadcast-length : length broadcast ≡ 99
+broadcast-length = refl
+
+pub broadcast-sound : shapeOf broadcast ≡ Sound (headerOf broadcast)
+unfolding shapeOf headerShape judge badState repeats badLayer firstBelow anyBelow le16 le32
+broadcast-sound = refl
+
+pub broadcast-cut : shapeOf (take 98 broadcast) ≡ Refused 1 0
+unfolding shapeOf headerShape judge badState repeats badLayer firstBelow anyBelow le16 le32
+broadcast-cut = refl

@@ -1,0 +1,137 @@
+-- Tests 1 to 8 of document 01. Each can be laid beside its line of the table in "What a call says".
+use mathlib.Core.Bool.{Bool, false, not, _||_, _&&_}
+use mathlib.Core.List.{List, [], _∷_}
+use Prim.Native.Nat.{ℕ, _+_, _/_, _%_}
+use lib.Dec.{leb, ltb, eqb}
+use lib.ListN.{length, getD}
+use Rattle.theory.specs.Below.{anyBelow}
+use Rattle.format.specs.Format.{headerOf, statesLength, rulesLength, layersLength, nodesLength, leavesLength, partsOf, flags, ruleP, ruleQ, ruleP′, ruleQ′, ruleLayer, layerWeight}
+use Rattle.format.specs.declared.Sizes.{Sizes}
+use Rattle.format.specs.declared.Header.{Header}
+use Rattle.shape.specs.Judge.{Test, only, judge}
+use Rattle.shape.specs.declared.Property.{Property}
+use Rattle.shape.specs.declared.Property.the-variants.{Flags, Input, Rule, Pair, Layer, Weight}
+use Rattle.shape.specs.declared.Outcome.{Outcome}
+use Rattle.shape.specs.declared.Outcome.the-variants.{Passed, Failed}
+use Rattle.shape.specs.declared.Shape.{Shape}
+use Rattle.shape.specs.declared.Shape.the-variants.{Sound, Refused}
+pub mod Laws
+
+-- ---- Tests of the header
+
+abbrev pub outside : ℕ → ℕ → ℕ → Bool
+outside least greatest n = ltb n least || ltb greatest n
+
+-- Test 3: the counts (states, rules, layers, nodes, leaves) that are outside their limits. There are 0 layers just when there are 0 rules.
+abbrev pub countFaults : Sizes → List Bool
+countFaults z =
+    outside 2 64 (z .states)
+    ∷ ltb 256 (z .rules)
+    ∷ (ltb 16 (z .layers) || not (eqb (z .layers) 0) && eqb (z .rules) 0 || eqb (z .layers) 0 && not (eqb (z .rules) 0))
+    ∷ outside 1 2048 (z .nodes)
+    ∷ ltb 128 (z .leaves)
+    ∷ []
+
+-- Test 4: the offsets, and the total length, that are not where they belong: each section begins where the one before ends.
+abbrev pub offsetFaults : Header → List Bool
+offsetFaults h =
+    not (eqb (h .at .states) 24)
+    ∷ not (eqb (h .at .rules) (h .at .states + statesLength (h .sizes)))
+    ∷ not (eqb (h .at .layers) (h .at .rules + rulesLength (h .sizes)))
+    ∷ not (eqb (h .at .nodes) (h .at .layers + layersLength (h .sizes)))
+    ∷ not (eqb (h .at .leaves) (h .at .nodes + nodesLength (h .sizes)))
+    ∷ not (eqb (h .at .total) (h .at .leaves + leavesLength (h .sizes)))
+    ∷ []
+
+-- The k-th of a list of tests.
+abbrev pub nth : List Bool → ℕ → Bool
+nth ts k = getD ts k false
+
+-- ---- Properties of one record, of which tests 5 to 8 are made
+
+abbrev pub otherBits : List ℕ → ℕ → Bool
+otherBits states s = ltb 3 (flags states s)
+
+abbrev pub isInput : List ℕ → ℕ → Bool
+isInput states s = eqb (flags states s / 2 % 2) 1
+
+-- Rules e and r have the same before pair.
+abbrev pub samePair : List ℕ → ℕ → ℕ → Bool
+samePair rules r e = eqb (ruleP rules e) (ruleP rules r) && eqb (ruleQ rules e) (ruleQ rules r)
+
+abbrev pub inLayer : List ℕ → ℕ → ℕ → Bool
+inLayer rules l r = eqb (ruleLayer rules r) l
+
+abbrev pub tooLarge : ℕ → List ℕ → ℕ → ℕ → Bool
+tooLarge n layers l s = ltb 1000000 (layerWeight n layers l s)
+
+-- ---- Tests of the records
+
+-- Test 5: at a state, other bits are set; at place S, there is no input state at all.
+unfoldable pub badState : Sizes → List ℕ → ℕ → Bool
+badState z states s = ltb s (z .states) && otherBits states s || eqb s (z .states) && not (anyBelow (z .states) (isInput states))
+
+-- Test 6: a state ≥ S, a pair out of order, pairs equal, or a layer ≥ L.
+abbrev pub badRule : Sizes → List ℕ → ℕ → Bool
+badRule z rules r =
+    leb (z .states) (ruleP rules r)
+    || leb (z .states) (ruleQ rules r)
+    || leb (z .states) (ruleP′ rules r)
+    || leb (z .states) (ruleQ′ rules r)
+    || ltb (ruleQ rules r) (ruleP rules r)
+    || ltb (ruleQ′ rules r) (ruleP′ rules r)
+    || eqb (ruleP rules r) (ruleP′ rules r) && eqb (ruleQ rules r) (ruleQ′ rules r)
+    || leb (z .layers) (ruleLayer rules r)
+
+-- Test 7: an earlier rule has the same before pair.
+unfoldable pub repeats : List ℕ → ℕ → Bool
+repeats rules r = anyBelow r (samePair rules r)
+
+-- Test 8: no rule in the layer, or a weight too large.
+unfoldable pub badLayer : Sizes → List ℕ → List ℕ → ℕ → Bool
+badLayer z rules layers l = not (anyBelow (z .rules) (inLayer rules l)) || anyBelow (z .states) (tooLarge (z .states) layers l)
+
+-- ---- The check of the shape
+
+-- Tests 5 to 8.
+abbrev pub partTests : Sizes → List ℕ → List ℕ → List ℕ → List Test
+partTests z states rules layers =
+    record { number = 5; places = z .states + 1; bad = badState z states }
+    ∷ record { number = 6; places = z .rules; bad = badRule z rules }
+    ∷ record { number = 7; places = z .rules; bad = repeats rules }
+    ∷ record { number = 8; places = z .layers; bad = badLayer z rules layers }
+    ∷ []
+
+-- Tests 1 to 8 of the bytes b with header h.
+abbrev pub shapeTests : List ℕ → Header → List Test
+shapeTests b h =
+    only 1 (ltb (length b) 24 || not (eqb (length b) (h .at .total)))
+    ∷ only 2 (not (eqb (h .version) 1))
+    ∷ record { number = 3; places = 5; bad = nth (countFaults (h .sizes)) }
+    ∷ record { number = 4; places = 6; bad = nth (offsetFaults h) }
+    ∷ partTests (h .sizes) (partsOf b h .states) (partsOf b h .rules) (partsOf b h .layers)
+
+-- What part_tests answers.
+unfoldable pub partOutcome : Sizes → List ℕ → List ℕ → List ℕ → Outcome
+partOutcome z states rules layers = judge Failed Passed (partTests z states rules layers)
+
+-- The same as a shape with header h.
+abbrev pub asShape : Header → Outcome → Shape
+asShape h Passed = Sound h
+asShape h (Failed n k) = Refused n k
+
+-- What read_shape answers: the header of bytes that pass, or the refusal's number and place.
+unfoldable pub headerShape : List ℕ → Header → Shape
+headerShape b h = judge Refused (Sound h) (shapeTests b h)
+
+unfoldable pub shapeOf : List ℕ → Shape
+shapeOf b = headerShape b (headerOf b)
+
+-- What holds answers, of the section that the property is about.
+abbrev pub holdsOf : List ℕ → Sizes → Property → ℕ → Bool
+holdsOf x z Flags s = otherBits x s
+holdsOf x z Input s = isInput x s
+holdsOf x z Rule r = badRule z x r
+holdsOf x z (Pair r) e = samePair x r e
+holdsOf x z (Layer l) r = inLayer x l r
+holdsOf x z (Weight l) s = tooLarge (z .states) x l s

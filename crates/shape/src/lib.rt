@@ -1,0 +1,291 @@
+// Tests 1 to 8 of a docket, which every call makes first. Any bytes may be given.
+ghost use mathlib.Core.Path.{_≡_};
+ghost use mathlib.Core.Bool.{not, _||_};
+ghost use mathlib.Core.List.{[], _∷_};
+ghost use Prim.Native.Nat.{_+_};
+ghost use lib.Dec.{eqb, ltb};
+ghost use lib.ListN.{length};
+ghost use Rattle.theory.specs.Below.{firstBelow};
+ghost use Rattle.shape.specs.Shape.{countFaults, offsetFaults, nth, badState, badRule, repeats, badLayer, partOutcome, asShape, headerShape, shapeOf, holdsOf};
+use format::Header;
+use format::Sizes;
+
+// What tests 1 to 8 find: the header, or the refusal's number and place.
+pub enum Shape {
+    Sound(Header),
+    Refused { number: u32, place: u32 },
+}
+
+// What tests of the parts alone find.
+pub enum Outcome {
+    Passed,
+    Failed { number: u32, place: u32 },
+}
+
+// A property of one record of a section.
+pub enum Property {
+    // A state with other bits set.
+    Flags,
+    // An input state.
+    Input,
+    // A rule that test 6 refuses.
+    Rule,
+    // A rule with the before pair of this one.
+    Pair(u16),
+    // A rule of this layer.
+    Layer(u16),
+    // A state whose weight in this layer is too large.
+    Weight(u16),
+}
+
+// The index of the first that is true, or 6.
+fn first_true(a: bool, b: bool, c: bool, d: bool, e: bool, f: bool) -> u32
+    ensures { λ r. ⌜ r ≡ firstBelow 6 (nth (a ∷ b ∷ c ∷ d ∷ e ∷ f ∷ [])) ⌝ }
+{
+    if a {
+        return 0;
+    }
+    if b {
+        return 1;
+    }
+    if c {
+        return 2;
+    }
+    if d {
+        return 3;
+    }
+    if e {
+        return 4;
+    }
+    if f {
+        return 5;
+    }
+    6
+}
+
+// Test 3: the first count outside its limits, or 5.
+pub fn count_fault(z: Sizes) -> u32
+    ensures { λ r. ⌜ r ≡ firstBelow 5 (nth (countFaults z)) ⌝ }
+{
+    first_true(
+        (z.states < 2) | (64 < z.states),
+        256 < z.rules,
+        (16 < z.layers) | (z.layers != 0) & (z.rules == 0) | (z.layers == 0) & (z.rules != 0),
+        (z.nodes < 1) | (2048 < z.nodes),
+        128 < z.leaves,
+        true,
+    )
+}
+
+// Whether an offset is not where a section of this length, beginning at start, ends.
+fn misplaced(at: u16, start: u16, len: usize) -> bool
+    ensures { λ r. ⌜ r ≡ not (eqb at (start + len)) ⌝ }
+{
+    if at < start {
+        return true;
+    }
+    let between = at - start;
+    (between as usize) != len
+}
+
+// Test 4: the first offset that is not where it belongs, 5 for the total length, or 6.
+fn offset_fault(h: Header) -> u32
+    ensures { λ r. ⌜ r ≡ firstBelow 6 (nth (offsetFaults h)) ⌝ }
+{
+    let at = h.at;
+    let z = h.sizes;
+    let rules = misplaced(at.rules, at.states, z.states as usize);
+    let layers = misplaced(at.layers, at.rules, format::product(5, z.rules));
+    let nodes = misplaced(at.nodes, at.layers, 4 * format::product(z.layers, z.states));
+    let leaves = misplaced(at.leaves, at.nodes, format::product(12, z.nodes));
+    let total = misplaced(at.total, at.leaves, 4 * format::product(z.leaves, z.states));
+    first_true(at.states != 24, rules, layers, nodes, leaves, total)
+}
+
+fn rule_bad(rules: &[u8], z: Sizes, r: u16) -> bool
+    ensures { λ t. ⌜ t ≡ badRule z (now (rules .entry)) r ⌝ }
+{
+    let p = format::rule_p(rules, r);
+    let q = format::rule_q(rules, r);
+    let p2 = format::rule_p_after(rules, r);
+    let q2 = format::rule_q_after(rules, r);
+    let l = format::rule_layer(rules, r);
+    let n = z.states as usize;
+    let m = z.layers as usize;
+    (n <= p)
+        | (n <= q)
+        | (n <= p2)
+        | (n <= q2)
+        | (q < p)
+        | (q2 < p2)
+        | (p == p2) & (q == q2)
+        | (m <= l)
+}
+
+// Whether record i of the section x has the property.
+fn holds(x: &[u8], z: Sizes, t: Property, i: u16) -> bool
+    ensures { λ r. ⌜ r ≡ holdsOf (now (x .entry)) z t i ⌝ }
+{
+    match t {
+        Property::Flags => 3 < format::state_flags(x, i),
+        Property::Input => format::state_flags(x, i) / 2 % 2 == 1,
+        Property::Rule => rule_bad(x, z, i),
+        Property::Pair(r) => (format::rule_p(x, i) == format::rule_p(x, r))
+            & (format::rule_q(x, i) == format::rule_q(x, r)),
+        Property::Layer(l) => format::rule_layer(x, i) == (l as usize),
+        Property::Weight(l) => 1000000 < format::layer_weight(x, z.states, l, i),
+    }
+}
+
+// The first record below n that has the property, or n.
+fn first(x: &[u8], z: Sizes, t: Property, n: u16) -> u16
+    ensures { λ r. ⌜ r ≡ firstBelow n (holdsOf (now (x .entry)) z t) ⌝ }
+{
+    let mut i: u16 = 0;
+    while i < n {
+        if holds(x, z, t, i) {
+            return i;
+        }
+        i += 1;
+    }
+    i
+}
+
+// Test 5: the first state with other bits set, S where there is no input, or one more.
+fn state_fault(states: &[u8], z: Sizes) -> u32
+    ensures { λ i. ⌜ i ≡ firstBelow (z .states + 1) (badState z (now (states .entry))) ⌝ }
+{
+    let n = z.states;
+    let s = first(states, z, Property::Flags, n);
+    if s < n {
+        return s as u32;
+    }
+    if first(states, z, Property::Input, n) < n {
+        return (n as u32) + 1;
+    }
+    n as u32
+}
+
+fn rule_repeats(rules: &[u8], z: Sizes, r: u16) -> bool
+    ensures { λ t. ⌜ t ≡ repeats (now (rules .entry)) r ⌝ }
+{
+    first(rules, z, Property::Pair(r), r) < r
+}
+
+// Test 7: the first rule that has the before pair of an earlier one, or the number of rules.
+fn repeat_fault(rules: &[u8], z: Sizes) -> u16
+    ensures { λ i. ⌜ i ≡ firstBelow (z .rules) (repeats (now (rules .entry))) ⌝ }
+{
+    let mut i: u16 = 0;
+    while i < z.rules {
+        if rule_repeats(rules, z, i) {
+            return i;
+        }
+        i += 1;
+    }
+    i
+}
+
+fn layer_bad(rules: &[u8], layers: &[u8], z: Sizes, l: u16) -> bool
+    ensures { λ t. ⌜ t ≡ badLayer z (now (rules .entry)) (now (layers .entry)) l ⌝ }
+{
+    !(first(rules, z, Property::Layer(l), z.rules) < z.rules)
+        | (first(layers, z, Property::Weight(l), z.states) < z.states)
+}
+
+// Test 8: the first layer with no rule or with a weight too large, or the number of layers.
+fn layer_fault(rules: &[u8], layers: &[u8], z: Sizes) -> u16
+    ensures { λ i. ⌜ i ≡ firstBelow (z .layers) (badLayer z (now (rules .entry)) (now (layers .entry))) ⌝ }
+{
+    let mut i: u16 = 0;
+    while i < z.layers {
+        if layer_bad(rules, layers, z, i) {
+            return i;
+        }
+        i += 1;
+    }
+    i
+}
+
+// Tests 5 to 8.
+pub fn part_tests(states: &[u8], rules: &[u8], layers: &[u8], z: Sizes) -> Outcome
+    ensures { λ r. ⌜ r ≡ partOutcome z (now (states .entry)) (now (rules .entry)) (now (layers .entry)) ⌝ }
+{
+    let place = state_fault(states, z);
+    if place < (z.states as u32) + 1 {
+        return Outcome::Failed { number: 5, place };
+    }
+    let r = first(rules, z, Property::Rule, z.rules);
+    if r < z.rules {
+        let place = r as u32;
+        return Outcome::Failed { number: 6, place };
+    }
+    let q = repeat_fault(rules, z);
+    if q < z.rules {
+        let place = q as u32;
+        return Outcome::Failed { number: 7, place };
+    }
+    let l = layer_fault(rules, layers, z);
+    if l < z.layers {
+        let place = l as u32;
+        return Outcome::Failed { number: 8, place };
+    }
+    Outcome::Passed
+}
+
+// The outcome as a shape with header h.
+fn shape_with(h: Header, o: Outcome) -> Shape
+    ensures { λ r. ⌜ r ≡ asShape h o ⌝ }
+{
+    match o {
+        Outcome::Passed => Shape::Sound(h),
+        Outcome::Failed { number, place } => Shape::Refused { number, place },
+    }
+}
+
+fn length_fault(b: &[u8], h: Header) -> bool
+    ensures { λ t. ⌜ t ≡ (ltb (length (now (b .entry))) 24 || not (eqb (length (now (b .entry))) (h .at .total))) ⌝ }
+{
+    (b.len() < 24) | (b.len() != (h.at.total as usize))
+}
+
+// Tests 1 to 8 of the bytes b with header h.
+fn header_shape(b: &[u8], h: Header) -> Shape
+    ensures { λ r. ⌜ r ≡ headerShape (now (b .entry)) h ⌝ }
+{
+    if length_fault(b, h) {
+        return Shape::Refused {
+            number: 1,
+            place: 0,
+        };
+    }
+    let unknown = h.version != 1;
+    if unknown {
+        return Shape::Refused {
+            number: 2,
+            place: 0,
+        };
+    }
+    let place = count_fault(h.sizes);
+    if place < 5 {
+        return Shape::Refused { number: 3, place };
+    }
+    let place = offset_fault(h);
+    if place < 6 {
+        return Shape::Refused { number: 4, place };
+    }
+    let parts = part_tests(
+        format::states_part(b, h),
+        format::rules_part(b, h),
+        format::layers_part(b, h),
+        h.sizes,
+    );
+    shape_with(h, parts)
+}
+
+// Tests 1 to 8.
+pub fn read_shape(b: &[u8]) -> Shape
+    ensures { λ r. ⌜ r ≡ shapeOf (now (b .entry)) ⌝ }
+{
+    header_shape(b, format::read_header(b))
+}

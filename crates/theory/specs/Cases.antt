@@ -1,0 +1,7 @@
+-- Cases of the definitions, most of them computed. P1 to P12 are the samples of document 01.
+pub mod Protocol
+pub mod Ladder
+pub mod Tree
+pub mod Potential
+pub mod Machine
+pub mod Witnesses

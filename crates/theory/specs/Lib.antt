@@ -1,0 +1,13 @@
+-- Definitions stand in specs/X.antt, their laws in specs/X/, computed cases of them in specs/Cases/X.antt. What is proved in the end is in Claims.
+pub mod Test
+pub mod Below
+pub mod Weigh
+pub mod Protocol
+pub mod Ladder
+pub mod Facts
+pub mod Leaf
+pub mod Tree
+pub mod Potential
+pub mod Machine
+pub mod Claims
+pub mod Cases

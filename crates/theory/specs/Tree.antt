@@ -1,0 +1,175 @@
+-- The tree of arguments of document 01, "The tree": traps and siphons, nodes with their grounds and children, and the walk.
+use mathlib.Core.Bool.{Bool, true, false, _&&_, _||_, Bool·beq}
+use mathlib.Core.List.{List, [], _∷_}
+use Prim.Native.Nat.{ℕ, zero, suc, _^_}
+use lib.ListN.{getD}
+use lib.Dec.{leb, ltb, eqb}
+use Rattle.theory.specs.Test.{imp, member}
+use Rattle.theory.specs.Below.{allBelow}
+use Rattle.theory.specs.Protocol.{Protocol}
+use Rattle.theory.specs.Facts.{Facts, withAbsent, withPresent, withAtMostOne, withUnused, fresh}
+use Rattle.theory.specs.Leaf.{leafCloses}
+pub mod Traps
+pub mod Laws
+pub mod Consensus
+
+-- The fields of nodes 0 to nodes - 1, as they stand in the file.
+pub record Tree : Type 0 where
+  pub nodes : ℕ
+  pub leaves : ℕ
+  pub kind : ℕ → ℕ
+  pub party : ℕ → ℕ
+  pub argument : ℕ → ℕ
+  pub set : ℕ → ℕ
+
+-- What a tree refutes: so many runs from one start, each of which ends at a terminal configuration that holds a state of the output assumed for it. closes says which leaves close on which facts.
+pub record Assumption : Type 0 where
+  pub runs : ℕ
+  pub assumed : ℕ → Bool
+  pub closes : Facts → ℕ → Bool
+
+-- A node whose fields are as its kind wants them, by kind 0 to 6; or bad.
+--   leaf l             leaf l closes
+--   outputAbsent k     all states of the output assumed for end k are absent there
+--   contradiction k s  state s is both present and absent at party k
+--   disabled k r       rule r is not enabled at end k
+--   caseSplit k s      state s is absent at party k, or present
+--   trap k w           the set w is absent at end k, so it was at the start
+--   siphon k w         the set w is absent at the start, so it is at end k
+pub data Node : Type 0 where
+  leaf : ℕ → Node
+  outputAbsent : ℕ → Node
+  contradiction : ℕ → ℕ → Node
+  disabled : ℕ → ℕ → Node
+  caseSplit : ℕ → ℕ → Node
+  trap : ℕ → ℕ → Node
+  siphon : ℕ → ℕ → Node
+  bad : Node
+
+-- The number of the node at which the walk goes on, or a refusal's number and place.
+pub data Answer : Type 0 where
+  next : ℕ → Answer
+  refused : ℕ → ℕ → Answer
+
+-- The node n where its fields pass their test b, else bad.
+unfoldable pub checked : Bool → Node → Node
+checked true n = n
+checked false n = bad
+
+-- The refusal of a node: bad fields are 12, a ground that does not hold 13.
+unfoldable pub refusalNumber : Node → ℕ
+refusalNumber (leaf l) = 13
+refusalNumber (outputAbsent k) = 13
+refusalNumber (contradiction k s) = 13
+refusalNumber (disabled k r) = 13
+refusalNumber (caseSplit k s) = 13
+refusalNumber (trap k w) = 13
+refusalNumber (siphon k w) = 13
+refusalNumber bad = 12
+
+-- Children in preorder, each on its own facts; t walks one child.
+unfoldable pub forest : (Facts → ℕ → Answer) → List Facts → ℕ → Answer
+forest t [] i = next i
+forest t (F ∷ Fs) i = elim (t F i) [ next j ↦ forest t Fs j | refused n j ↦ refused n j ]
+
+module _ (P : Protocol) where
+  -- Rule r takes from the set A: its before pair meets A.
+  unfoldable pub takes : (ℕ → Bool) → ℕ → Bool
+  takes A r = A (P .p r) || A (P .q r)
+
+  -- Rule r puts into the set A: its after pair meets A.
+  unfoldable pub puts : (ℕ → Bool) → ℕ → Bool
+  puts A r = A (P .p′ r) || A (P .q′ r)
+
+  -- A rule of the protocol touches a set that either pair meets.
+  unfoldable pub touches : (ℕ → Bool) → ℕ → Bool
+  touches A r = ltb r (P .rules) && (takes A r || puts A r)
+
+  -- Each rule not unused that passes f passes g.
+  unfoldable pub follows : (ℕ → Bool) → (ℕ → Bool) → (ℕ → Bool) → Bool
+  follows unused f g = allBelow (P .rules) (λ r. unused r || imp (f r) (g r))
+
+  -- Whether the set A is a trap (the paper: a U-trap, U being the rules not unused): each rule not unused that takes from A puts into it.
+  unfoldable pub isTrap : (ℕ → Bool) → (ℕ → Bool) → Bool
+  isTrap unused A = follows unused (takes A) (puts A)
+
+  -- Whether the set A is a siphon (the paper: a U-siphon): each rule not unused that puts into A takes from it.
+  unfoldable pub isSiphon : (ℕ → Bool) → (ℕ → Bool) → Bool
+  isSiphon unused A = follows unused (puts A) (takes A)
+
+  -- Every state of the set A has the fact f.
+  unfoldable pub within : (ℕ → Bool) → (ℕ → Bool) → Bool
+  within A f = allBelow (P .states) (λ s. imp (A s) (f s))
+
+  -- A set field: a non-empty subset of the states.
+  unfoldable pub isSet : ℕ → Bool
+  isSet w = ltb 0 w && ltb w (2 ^ P .states)
+
+  -- The facts of a node's children.
+  unfoldable pub children : Facts → Node → List Facts
+  children F (leaf l) = []
+  children F (outputAbsent k) = []
+  children F (contradiction k s) = []
+  children F (disabled k r) =
+      elim (eqb (P .p r) (P .q r)) [
+        | true ↦ withAtMostOne F k (eqb (P .p r)) ∷ []
+        | false ↦ withAbsent F k (eqb (P .p r)) ∷ withAbsent F k (eqb (P .q r)) ∷ []
+      ]
+  children F (caseSplit k s) = withAbsent F k (eqb s) ∷ withPresent F k (eqb s) ∷ []
+  children F (trap k w) = withUnused (withAbsent F 0 (member w)) k (touches (member w)) ∷ []
+  children F (siphon k w) = withUnused (withAbsent F k (member w)) k (touches (member w)) ∷ []
+  children F bad = []
+
+  -- What the tree of a docket refutes: run 1 ends with a state of output 0 and run 2 with one of output 1. weights l k s is the biased weight of leaf l at end k.
+  unfoldable pub disagreement : (ℕ → ℕ → ℕ → ℕ) → Assumption
+  disagreement weights = record { runs = 2; assumed = λ k. eqb k 2; closes = λ F l. leafCloses P F (weights l) }
+
+module _ (P : Protocol) (H : Assumption) where
+  -- Whether party k is a run.
+  unfoldable pub isRun : ℕ → Bool
+  isRun k = leb 1 k && leb k (H .runs)
+
+  -- The ground of a node.
+  unfoldable pub ground : Facts → Node → Bool
+  ground F (leaf l) = H .closes F l
+  ground F (outputAbsent k) = within P (λ s. Bool·beq (P .output s) (H .assumed k)) (F .absent k)
+  ground F (contradiction k s) = F .present k s && F .absent k s
+  ground F (disabled k r) = true
+  ground F (caseSplit k s) = true
+  ground F (trap k w) = within P (member w) (F .absent k) && isTrap P (F .unused k) (member w)
+  ground F (siphon k w) = within P (member w) (F .absent 0) && isSiphon P (F .unused k) (member w)
+  ground F bad = false
+
+  module _ (T : Tree) where
+    -- A node with party k, argument a and set w, for each kind in turn. A field not named is 0.
+    unfoldable pub byKind : ℕ → ℕ → ℕ → List Node
+    byKind k a w =
+        checked (eqb k 0 && ltb a (T .leaves) && eqb w 0) (leaf a)
+        ∷ checked (isRun k && eqb a 0 && eqb w 0) (outputAbsent k)
+        ∷ checked (leb k (H .runs) && ltb a (P .states) && eqb w 0) (contradiction k a)
+        ∷ checked (isRun k && ltb a (P .rules) && eqb w 0) (disabled k a)
+        ∷ checked (leb k (H .runs) && ltb a (P .states) && eqb w 0) (caseSplit k a)
+        ∷ checked (isRun k && eqb a 0 && isSet P w) (trap k w)
+        ∷ checked (isRun k && eqb a 0 && isSet P w) (siphon k w)
+        ∷ []
+
+    -- Node i; an unknown kind is bad.
+    unfoldable pub node : ℕ → Node
+    node i = getD (byKind (T .party i) (T .argument i) (T .set i)) (T .kind i) bad
+
+    -- The walk of the subtree at node i, which may be so many nodes deep: the number of the node behind it, or the refusal.
+    unfoldable pub treeAt : ℕ → Facts → ℕ → Answer
+    treeAt zero F i = refused 12 i
+    treeAt (suc d) F i =
+        elim (ltb i (T .nodes)) [
+          | true ↦ elim (ground F (node i)) [ true ↦ forest (treeAt d) (children P F (node i)) (suc i) | false ↦ refused (refusalNumber (node i)) i ]
+          | false ↦ refused 12 (T .nodes)
+        ]
+
+    -- The whole tree, to depth 40; a node left over is refused. The answer next means accepted: it is next (T .nodes).
+    unfoldable pub treeAnswer : Answer
+    treeAnswer =
+        elim (treeAt 40 (fresh P) 0) [
+          | next j ↦ elim (eqb j (T .nodes)) [ true ↦ next j | false ↦ refused 12 j ]
+          | refused n j ↦ refused n j
+        ]

@@ -1,5 +1,5 @@
 -- The docket file (document 01, "The file"): its header, its five parts, and the protocol, the tree and the leaf weights that the parts stand for.
-use mathlib.Core.List.{List}
+use mathlib.Core.List.{List, []}
 use Prim.Native.Nat.{ℕ, _+_, _-_, _*_, _/_, _%_}
 use lib.Dec.{eqb}
 use lib.ListN.{getD}
@@ -117,6 +117,10 @@ protocolOf z states rules layers =
       output = λ s. eqb (flags states s % 2) 1;
       input = λ s. eqb (flags states s / 2 % 2) 1;
     }
+
+-- The rules alone: enabled rules, firing and the handover do not look at states and weights, so they are the same of every protocol with these rules.
+abbrev pub tableOf : Sizes → List ℕ → Protocol
+tableOf z rules = protocolOf z [] rules []
 
 abbrev pub treeOf : Sizes → List ℕ → Tree
 treeOf z nodes =

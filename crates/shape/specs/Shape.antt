@@ -127,6 +127,20 @@ headerShape b h = judge Refused (Sound h) (shapeTests b h)
 unfoldable pub shapeOf : List ℕ → Shape
 shapeOf b = headerShape b (headerOf b)
 
+-- What follows for a docket that passes tests 1 to 8, by its header; a refusal of these is passed back.
+abbrev pub onShape : {A : Type 0} → (ℕ → ℕ → A) → (Header → A) → Shape → A
+onShape refuse f (Sound h) = f h
+onShape refuse f (Refused n k) = refuse n k
+
+-- The number and place of a refused shape; 0 for a sound one.
+abbrev pub numberOf : Shape → ℕ
+numberOf (Sound h) = 0
+numberOf (Refused n k) = n
+
+abbrev pub placeOf : Shape → ℕ
+placeOf (Sound h) = 0
+placeOf (Refused n k) = k
+
 -- What holds answers, of the section that the property is about.
 abbrev pub holdsOf : List ℕ → Sizes → Property → ℕ → Bool
 holdsOf x z Flags s = otherBits x s

@@ -6,7 +6,7 @@ ghost use Prim.Native.Nat.{_+_};
 ghost use lib.Dec.{eqb, ltb};
 ghost use lib.ListN.{length};
 ghost use Rattle.theory.specs.Below.{firstBelow};
-ghost use Rattle.shape.specs.Shape.{countFaults, offsetFaults, nth, badState, badRule, repeats, badLayer, partOutcome, asShape, headerShape, shapeOf, holdsOf};
+ghost use Rattle.shape.specs.Shape.{countFaults, offsetFaults, nth, badState, badRule, repeats, badLayer, partOutcome, asShape, headerShape, shapeOf, numberOf, placeOf, holdsOf};
 use format::Header;
 use format::Sizes;
 
@@ -288,4 +288,23 @@ pub fn read_shape(b: &[u8]) -> Shape
     ensures { λ r. ⌜ r ≡ shapeOf (now (b .entry)) ⌝ }
 {
     header_shape(b, format::read_header(b))
+}
+
+// The number and the place of a refused shape; 0 for a sound one.
+pub fn number_of(s: Shape) -> u32
+    ensures { λ n. ⌜ n ≡ numberOf s ⌝ }
+{
+    match s {
+        Shape::Sound(_) => 0,
+        Shape::Refused { number, place: _ } => number,
+    }
+}
+
+pub fn place_of(s: Shape) -> u32
+    ensures { λ k. ⌜ k ≡ placeOf s ⌝ }
+{
+    match s {
+        Shape::Sound(_) => 0,
+        Shape::Refused { number: _, place } => place,
+    }
 }

@@ -18,7 +18,7 @@ use Rattle.format.specs.declared.Sizes.{Sizes}
 use Rattle.format.specs.declared.Header.{Header}
 use Rattle.shape.specs.Judge.{judge}
 use Rattle.shape.specs.Judge.Laws.{judge-map}
-use Rattle.shape.specs.Shape.{nth, otherBits, isInput, samePair, inLayer, tooLarge, badState, repeats, badLayer, partTests, partOutcome, asShape}
+use Rattle.shape.specs.Shape.{nth, otherBits, isInput, samePair, inLayer, tooLarge, badState, repeats, badLayer, partTests, partOutcome, asShape, onShape, numberOf, placeOf}
 use Rattle.shape.specs.declared.Outcome.{Outcome}
 use Rattle.shape.specs.declared.Outcome.the-variants.{Passed, Failed}
 use Rattle.shape.specs.declared.Shape.{Shape}
@@ -109,3 +109,16 @@ pub shape-parts : (b : List ℕ) (h : Header) (states rules layers : List ℕ) (
     → r ≡ judge Refused (Sound h) (partTests (h .sizes) (partsOf b h .states) (partsOf b h .rules) (partsOf b h .layers))
 unfolding partOutcome
 shape-parts b h states rules layers o r s u l e d = rw (← s, ← u, ← l) (d ∙ ap (asShape h) e ∙ judge-map (asShape h) Failed Passed (partTests (h .sizes) states rules layers))
+
+-- ---- Callers
+
+-- A caller that takes the shape s apart follows onShape.
+module _ {A : Type 0} (refuse : ℕ → ℕ → A) (f : Header → A) (a : A) (s t : Shape) (e : s ≡ t) where
+  pub sound-then : (h : Header) → s ≡ Sound h → a ≡ f h → a ≡ onShape refuse f t
+  sound-then h u g = g ∙ ap (onShape refuse f) (sym u ∙ e)
+
+  pub sound-else : (n k number place : ℕ) → s ≡ Refused n k → number ≡ numberOf s → place ≡ placeOf s → a ≡ refuse number place → a ≡ onShape refuse f t
+  sound-else n k number place u p q g =
+      let pn : number ≡ n = p ∙ ap numberOf u in
+      let qk : place ≡ k = q ∙ ap placeOf u in
+      g ∙ ap (λ i. refuse i place) pn ∙ ap (refuse n) qk ∙ ap (onShape refuse f) (sym u ∙ e)

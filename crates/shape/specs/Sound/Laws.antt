@@ -19,6 +19,7 @@ use Rattle.format.specs.declared.Sizes.{Sizes}
 use Rattle.format.specs.declared.Header.{Header}
 use Rattle.shape.specs.Judge.Laws.{Passes, judge-passes, passes-judge}
 use Rattle.shape.specs.Shape.{countFaults, offsetFaults, nth, otherBits, isInput, samePair, inLayer, tooLarge, badState, badRule, repeats, badLayer, partTests, shapeTests, headerShape, shapeOf}
+use Rattle.shape.specs.declared.Shape.{Shape}
 use Rattle.shape.specs.declared.Shape.the-variants.{Sound, Refused}
 use Rattle.shape.specs.Sound.{Limits, Laid, SoundParts, SoundShape, Lengths}
 
@@ -297,3 +298,6 @@ unfolding shapeOf headerShape
 shape-sound b h g =
     let at : SoundShape b (headerOf b) = subst (SoundShape b) (g .header) g in
     passes-judge Refused (Sound (headerOf b)) (shapeTests b (headerOf b)) (sound-passes b (headerOf b) at) ∙ ap Sound (sym (g .header))
+
+pub sound-at : (b : List ℕ) (s : Shape) (h : Header) → s ≡ shapeOf b → s ≡ Sound h → SoundShape b h
+sound-at b s h e u = sound-shape b h (sym e ∙ u)

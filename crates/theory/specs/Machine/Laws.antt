@@ -37,12 +37,12 @@ module _ (P : Protocol) where
   tries c (step r) = r ∷ []
   tries c (run limit) = runNumbers P limit c
 
-  adds-on : (c : List ℕ) (x : Call) → admitted P c ≡ true → adds P c x ≡ tries c x
+  pub adds-on : (c : List ℕ) (x : Call) → admitted P c ≡ true → adds P c x ≡ tries c x
   unfolding adds
   adds-on c (step r) e = rw e
   adds-on c (run limit) e = rw e
 
-  adds-off : (c : List ℕ) (x : Call) → admitted P c ≡ false → adds P c x ≡ []
+  pub adds-off : (c : List ℕ) (x : Call) → admitted P c ≡ false → adds P c x ≡ []
   unfolding adds
   adds-off c (step r) e = rw e
   adds-off c (run limit) e = rw e
@@ -133,7 +133,7 @@ module _ (P : Protocol) (good : WellFormed P) where
   -- ---- Runs
 
   -- The rule that a run uses makes a meeting, and is of the lowest layer that has an enabled rule.
-  chosen-fires : (c : List ℕ) → terminal P c ≡ false → (fires P c (chosen P c) ≡ true) × (P .layer (chosen P c) ≡ lowest P c)
+  pub chosen-fires : (c : List ℕ) → terminal P c ≡ false → (fires P c (chosen P c) ≡ true) × (P .layer (chosen P c) ≡ lowest P c)
   unfolding chosen active
   chosen-fires c t =
       let test = enabledIn P c (lowest P c) in

@@ -1,0 +1,16 @@
+-- `capi::docket_start_test` meets its contract: by what the calls ensure.
+use borrow.Author.Needs.{needs}
+use Rattle.capi.proofs.docket_start_test.Statement.{statement}
+use Rattle.capi.proofs.docket_start_test.Tie as tie
+
+start-test-requires : tie.Need-start-test-requires
+start-test-requires c κs = search needs
+
+start-code-requires : tie.Need-start-code-requires
+start-code-requires c κs = search needs
+
+returns : tie.Need-returns
+returns c = cc
+
+pub docket-start-test-spec : {M : Type 1} → statement M
+docket-start-test-spec = tie.close (tie.spec start-test-requires start-code-requires returns)

@@ -1,0 +1,29 @@
+-- The claims are proved. Assumes nothing.
+use mathlib.Core.Path.{subst}
+use mathlib.Core.List.{List}
+use Prim.Native.Nat.{ℕ}
+use Rattle.theory.specs.Claims.Proved.{theorems}
+use Rattle.format.specs.Format.{headerOf, protocolIn}
+use Rattle.claims.specs.Claims.{Rules, IsAccepted, Claims}
+use Rattle.claims.specs.Claims.Exact.{certified, demand-2}
+use Rattle.claims.specs.Claims.Numbers.{demand-1}
+use Rattle.claims.specs.Claims.Starts.{start-exact}
+use Rattle.claims.specs.Claims.Lists.{calls-on, demand-3, calls-fail}
+
+module _ (b : List ℕ) (a : IsAccepted b) where
+  -- The header of an accepted docket is what its first bytes say.
+  keeps : Rules b (headerOf b)
+  keeps = let k = demand-2 b .exact .0 a in subst (Rules b) (k .1 .shape .header) (k .1)
+
+pub claims : (b : List ℕ) → Claims b
+claims b = record {
+  demand-1 = demand-1 b;
+  demand-2 = demand-2 b;
+  demand-3 = λ a. demand-3 b (headerOf b) (keeps b a);
+  calls-on-sound = calls-on b;
+  calls-on-others = calls-fail b;
+  ws³ = λ a. theorems (protocolIn b (headerOf b)) .ws³ (certified b (headerOf b) (keeps b a));
+  ws² = λ a. theorems (protocolIn b (headerOf b)) .ws² (certified b (headerOf b) (keeps b a));
+  definitions = λ h sound. theorems (protocolIn b h) .as-published (sound .parts .formed);
+  start-exact = start-exact b;
+}

@@ -1,0 +1,1 @@
+// What is proved of dockets: definitions and theorems in specs/, and no code.

@@ -1,0 +1,50 @@
+-- `counts::occupied` meets its contract: the set has the occupied states below i.
+use Prim.Native.Nat.{_≤_, _-_}
+use mathlib.Core.Path.{_≡_}
+use Rattle.theory.specs.Test.{member}
+use Rattle.counts.specs.Counts.{statesThat, isOccupied}
+use Rattle.counts.specs.Counts.Laws.{that-none, that-more, that-done}
+use borrow.Author.Needs.{needs}
+use Rattle.counts.proofs.occupied.Statement.{statement}
+use Rattle.counts.proofs.occupied.Tie as tie
+
+abbrev Inv-loop : tie.InvT-loop
+Inv-loop counts n set₀ i₀ set i = (i ≤ n) × (member set ≡ statesThat (isOccupied counts) i)
+
+abbrev μ-loop : tie.MeasureT-loop
+μ-loop counts n set₀ i₀ set i = n - i
+
+loop-holds : tie.Need-loop-holds Inv-loop μ-loop
+loop-holds c = (search needs, that-none _)
+
+is-occupied-requires : tie.Need-is-occupied-requires Inv-loop μ-loop
+is-occupied-requires c κs = search needs
+
+with-if-requires : tie.Need-with-if-requires Inv-loop μ-loop
+with-if-requires c κs = search needs
+
+add-i : tie.Need-add-i Inv-loop μ-loop
+add-i c = search needs
+
+loop-less : tie.Need-loop-less Inv-loop μ-loop
+loop-less c = search needs
+
+loop-again : tie.Need-loop-again Inv-loop μ-loop
+loop-again c = (search needs, that-more _ _ _ _ _ (c .before .before .before .loop .inv .1) (c .before .is-occupied .ensures) (c .with-if .ensures))
+
+returns : tie.Need-returns Inv-loop μ-loop
+returns c = search (that-done, needs)
+
+pub occupied-spec : {M : Type 1} → statement M
+occupied-spec =
+    tie.close
+    (tie.spec
+    Inv-loop
+    μ-loop
+    loop-holds
+    is-occupied-requires
+    with-if-requires
+    add-i
+    loop-less
+    loop-again
+    returns)

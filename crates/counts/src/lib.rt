@@ -1,0 +1,184 @@
+// The counts of a configuration, one 32-bit number a state, lent as a slice; and sets of states as words.
+ghost use mathlib.Core.Path.{_≡_};
+ghost use Prim.Native.Nat.{_≤_, _<_};
+ghost use lib.ListN.{getD};
+ghost use Rattle.theory.specs.Test.{member};
+ghost use Rattle.theory.specs.Below.{sumBelow};
+ghost use Rattle.theory.specs.Protocol.{size, lose as loseOf, gain as gainOf, enabled as enabledOf, fire as fireOf};
+ghost use Rattle.theory.specs.Machine.{chosen};
+ghost use Rattle.format.specs.Format.{tableOf};
+ghost use Rattle.counts.specs.Counts.{countsFault, statesThat, withIf, hasFlag, isOccupied};
+use format::Sizes;
+
+// A bit of a state's byte.
+pub enum Flag {
+    Output,
+    Input,
+}
+
+// The count of state s, 0 past the end.
+pub fn count(counts: &[u32], s: usize) -> u32
+    ensures { λ n. ⌜ n ≡ getD (now (counts .entry)) s 0 ⌝ }
+{
+    if s < counts.len() {
+        return counts[s];
+    }
+    0
+}
+
+// The sum of the counts of the states below n. It cannot wrap.
+fn total(counts: &[u32], n: u16) -> u64
+    ensures { λ t. ⌜ t ≡ sumBelow n (λ s. getD (now (counts .entry)) s 0) ⌝ }
+{
+    let mut sum: u64 = 0;
+    let mut i: u16 = 0;
+    while i < n {
+        let here = count(counts, i as usize);
+        sum += here as u64;
+        i += 1;
+    }
+    sum
+}
+
+// Refusals 20 and 21: the number, or 0 for counts that pass both.
+pub fn counts_fault(counts: &[u32], z: Sizes) -> u32
+    ensures { λ r. ⌜ r ≡ countsFault z (now (counts .entry)) ⌝ }
+{
+    let unlike = counts.len() != (z.states as usize);
+    if unlike {
+        return 20;
+    }
+    let n = total(counts, z.states);
+    if n < 2 {
+        return 21;
+    }
+    if 1000000 < n {
+        return 21;
+    }
+    0
+}
+
+// Whether rule r is enabled.
+pub fn enabled(rules: &[u8], z: Sizes, counts: &[u32], r: u16) -> bool
+    ensures { λ t. ⌜ t ≡ enabledOf (tableOf z (now (rules .entry))) (now (counts .entry)) r ⌝ }
+{
+    let p = format::rule_p(rules, r);
+    let q = format::rule_q(rules, r);
+    let same = p == q;
+    if same {
+        return 1 < count(counts, p);
+    }
+    if 0 < count(counts, p) {
+        return 0 < count(counts, q);
+    }
+    false
+}
+
+// One agent of state s less, where there is one.
+fn lose(counts: &mut [u32], s: usize)
+    ensures { λ _. ⌜ now (counts .exit) ≡ loseOf (now (counts .entry)) s ⌝ }
+{
+    if s < counts.len() {
+        if 0 < counts[s] {
+            counts[s] -= 1;
+        }
+    }
+}
+
+// One agent of state s more.
+fn gain(counts: &mut [u32], s: usize)
+    requires { ⌜ getD (now counts) s 0 < 4294967295 ⌝ }
+    ensures { λ _. ⌜ now (counts .exit) ≡ gainOf (now (counts .entry)) s ⌝ }
+{
+    if s < counts.len() {
+        counts[s] += 1;
+    }
+}
+
+// Rule r fires.
+pub fn fire(rules: &[u8], z: Sizes, counts: &mut [u32], r: u16)
+    requires { ⌜ size (now counts) ≤ 1000000 ⌝ }
+    ensures { λ _. ⌜ now (counts .exit) ≡ fireOf (tableOf z (now (rules .entry))) (now (counts .entry)) r ⌝ }
+{
+    let p = format::rule_p(rules, r);
+    let q = format::rule_q(rules, r);
+    let p2 = format::rule_p_after(rules, r);
+    let q2 = format::rule_q_after(rules, r);
+    lose(counts, p);
+    lose(counts, q);
+    gain(counts, p2);
+    gain(counts, q2);
+}
+
+// The rule that a run uses: the lowest enabled rule of the lowest layer that has one; the number of rules where none is enabled.
+pub fn choose(rules: &[u8], z: Sizes, counts: &[u32]) -> u16
+    ensures { λ r. ⌜ r ≡ chosen (tableOf z (now (rules .entry))) (now (counts .entry)) ⌝ }
+{
+    let mut best = z.rules;
+    let mut low = (z.layers as usize) + 1;
+    let mut r: u16 = 0;
+    while r < z.rules {
+        let l = format::rule_layer(rules, r);
+        if l < low {
+            if enabled(rules, z, counts, r) {
+                best = r;
+                low = l;
+            }
+        }
+        r += 1;
+    }
+    best
+}
+
+// Whether state s has the flag.
+fn has_flag(states: &[u8], f: Flag, s: u16) -> bool
+    ensures { λ t. ⌜ t ≡ hasFlag (now (states .entry)) f s ⌝ }
+{
+    let bits = format::state_flags(states, s);
+    match f {
+        Flag::Output => bits % 2 == 1,
+        Flag::Input => bits / 2 % 2 == 1,
+    }
+}
+
+fn is_occupied(counts: &[u32], s: u16) -> bool
+    ensures { λ t. ⌜ t ≡ isOccupied (now (counts .entry)) s ⌝ }
+{
+    0 < count(counts, s as usize)
+}
+
+// The set, with state s where the test passed.
+fn with_if(set: u64, t: bool, s: u16) -> u64
+    ensures { λ w. ⌜ member w ≡ withIf t s (member set) ⌝ }
+{
+    if t {
+        return bits::union(set, bits::single(s as usize));
+    }
+    set
+}
+
+// The states below n that have the flag, as a word.
+pub fn flag_set(states: &[u8], n: u16, f: Flag) -> u64
+    ensures { λ w. ⌜ member w ≡ statesThat (hasFlag (now (states .entry)) f) n ⌝ }
+{
+    let mut set: u64 = 0;
+    let mut i: u16 = 0;
+    while i < n {
+        set = with_if(set, has_flag(states, f, i), i);
+        i += 1;
+    }
+    set
+}
+
+// The states below n that hold an agent, as a word.
+pub fn occupied(counts: &[u32], n: u16) -> u64
+    ensures { λ w. ⌜ member w ≡ statesThat (isOccupied (now (counts .entry))) n ⌝ }
+{
+    let mut set: u64 = 0;
+    let mut i: u16 = 0;
+    while i < n {
+        set = with_if(set, is_occupied(counts, i), i);
+        i += 1;
+    }
+    set
+}

@@ -1,0 +1,34 @@
+// Reads a docket from standard input to its end and prints one line: accepted with S R L N W M, or refused with number and place.
+// A docket has at most 65,535 bytes, so a buffer that is full holds no docket: its length is unlike any header's, which is 1, 0.
+use checker::Checked;
+use libc::STDIN_FILENO;
+use libc::STDOUT_FILENO;
+
+fn main() {
+    let mut buffer = io::large_buffer();
+    let n = io::read_full(STDIN_FILENO, &mut buffer);
+    let checked = checker::check(&buffer[..n]);
+    match checked {
+        Checked::Accepted(f) => {
+            io::write_all(STDOUT_FILENO, b"accepted ");
+            io::print_decimal(STDOUT_FILENO, f.states as u64);
+            io::write_all(STDOUT_FILENO, b" ");
+            io::print_decimal(STDOUT_FILENO, f.rules as u64);
+            io::write_all(STDOUT_FILENO, b" ");
+            io::print_decimal(STDOUT_FILENO, f.layers as u64);
+            io::write_all(STDOUT_FILENO, b" ");
+            io::print_decimal(STDOUT_FILENO, f.nodes as u64);
+            io::write_all(STDOUT_FILENO, b" ");
+            io::print_decimal(STDOUT_FILENO, f.spreads);
+            io::write_all(STDOUT_FILENO, b" ");
+            io::print_decimal(STDOUT_FILENO, f.widest as u64);
+        }
+        Checked::Refused { number, place } => {
+            io::write_all(STDOUT_FILENO, b"refused ");
+            io::print_decimal(STDOUT_FILENO, number as u64);
+            io::write_all(STDOUT_FILENO, b" ");
+            io::print_decimal(STDOUT_FILENO, place as u64);
+        }
+    }
+    io::write_all(STDOUT_FILENO, b"\n");
+}

@@ -1,0 +1,17 @@
+-- Of the states those that are no inputs are absent at the start, and all other words are empty.
+use Rattle.facts.specs.Facts.Laws.{fresh-words}
+use borrow.Author.Needs.{needs}
+use Rattle.facts.proofs.Facts.fresh.Statement.{statement}
+use Rattle.facts.proofs.Facts.fresh.Tie as tie
+
+full-requires : tie.Need-full-requires
+full-requires c κs = search needs
+
+without-requires : tie.Need-without-requires
+without-requires c κs = search needs
+
+returns : tie.Need-returns
+returns c = search (fresh-words, needs)
+
+pub fresh-spec : {M : Type 1} → statement M
+fresh-spec = tie.close (tie.spec full-requires without-requires returns)

@@ -1,0 +1,20 @@
+-- A party's set is one word; past the last party there is none.
+use Rattle.facts.specs.Facts.Laws.{word-is, word-past}
+use borrow.Author.Needs.{needs}
+use Rattle.facts.proofs.Facts.present.Statement.{statement}
+use Rattle.facts.proofs.Facts.present.Tie as tie
+
+mul-result : tie.Need-mul-result
+mul-result c = search needs
+
+element-copy-out-result : tie.Need-element-copy-out-result
+element-copy-out-result c = search needs
+
+returns : tie.Need-returns
+returns c = search (word-is, needs)
+
+returns-2 : tie.Need-returns-2
+returns-2 c = search (word-past, needs)
+
+pub present-spec : {M : Type 1} → statement M
+present-spec = tie.close (tie.spec mul-result element-copy-out-result returns returns-2)

@@ -1,0 +1,2 @@
+-- Definitions stand in Facts, their laws in Facts.Laws.
+pub mod Facts

@@ -1,0 +1,129 @@
+// The facts that a tree of arguments gathers, as sets in words of 64 bits. Every function is total: a party or a rule outside its limits has no facts, and none can be marked there.
+ghost use mathlib.Core.Path.{_≡_};
+ghost use mathlib.Core.Bool.{_&&_};
+ghost use lib.Dec.{ltb, eqb};
+ghost use Rattle.theory.specs.Test.{member};
+ghost use Rattle.theory.specs.Facts.{withAbsent, withPresent, withAtMostOne, withUnused};
+ghost use Rattle.facts.specs.Facts.{factsOf, freshOf, onlyIf};
+
+// Party 0 is the start, 1 and 2 are the runs with their ends: a word a party for its states, four words a party for its rules.
+pub struct Facts {
+    absent: [u64; 3],
+    present: [u64; 3],
+    at_most_one: [u64; 3],
+    unused: [u64; 12],
+}
+
+impl Facts {
+    // The greatest depth of a tree.
+    pub const DEPTH: u16 = 40;
+
+    // The greatest number of states, and of rules.
+    pub const STATES: u16 = 64;
+
+    pub const RULES: u16 = 256;
+
+    // Every one of the n states that is no input is absent at the start.
+    pub fn fresh(inputs: u64, n: u16) -> Facts
+        ensures { λ r. ⌜ factsOf r ≡ freshOf n (member inputs) ⌝ }
+    {
+        let states = bits::full(n as usize);
+        let others = bits::without(states, inputs);
+        Facts {
+            absent: [others, 0, 0],
+            present: [0; 3],
+            at_most_one: [0; 3],
+            unused: [0; 12],
+        }
+    }
+
+    // The states of the set are absent at the party.
+    pub fn mark_absent(mut self, party: usize, set: u64) -> Facts
+        ensures { λ r. ⌜ factsOf r ≡ withAbsent (factsOf self) party (onlyIf (ltb party 3) (member set)) ⌝ }
+    {
+        if 3 <= party {
+            return self;
+        }
+        self.absent[party] = bits::union(self.absent[party], set);
+        self
+    }
+
+    // The states of the set are present at the party.
+    pub fn mark_present(mut self, party: usize, set: u64) -> Facts
+        ensures { λ r. ⌜ factsOf r ≡ withPresent (factsOf self) party (onlyIf (ltb party 3) (member set)) ⌝ }
+    {
+        if 3 <= party {
+            return self;
+        }
+        self.present[party] = bits::union(self.present[party], set);
+        self
+    }
+
+    // Each state of the set holds at most one worker at the party.
+    pub fn mark_at_most_one(mut self, party: usize, set: u64) -> Facts
+        ensures { λ r. ⌜ factsOf r ≡ withAtMostOne (factsOf self) party (onlyIf (ltb party 3) (member set)) ⌝ }
+    {
+        if 3 <= party {
+            return self;
+        }
+        self.at_most_one[party] = bits::union(self.at_most_one[party], set);
+        self
+    }
+
+    // The rule is unused in the run.
+    pub fn mark_unused(mut self, run: usize, rule: u16) -> Facts
+        ensures { λ r. ⌜ factsOf r ≡ withUnused (factsOf self) run (onlyIf (ltb run 3 && ltb rule 256) (eqb rule)) ⌝ }
+    {
+        if 3 <= run {
+            return self;
+        }
+        if Facts::RULES <= rule {
+            return self;
+        }
+        let i = rule as usize;
+        let at = 4 * run + i / 64;
+        let one = bits::single(i % 64);
+        self.unused[at] = bits::union(self.unused[at], one);
+        self
+    }
+
+    // The states that are absent at the party.
+    pub fn absent(self, party: usize) -> u64
+        ensures { λ r. ⌜ member r ≡ factsOf self .absent party ⌝ }
+    {
+        if party < 3 { self.absent[party] } else { 0 }
+    }
+
+    // The states that are present at the party.
+    pub fn present(self, party: usize) -> u64
+        ensures { λ r. ⌜ member r ≡ factsOf self .present party ⌝ }
+    {
+        if party < 3 { self.present[party] } else { 0 }
+    }
+
+    // The states that hold at most one worker at the party.
+    pub fn at_most_one(self, party: usize) -> u64
+        ensures { λ r. ⌜ member r ≡ factsOf self .atMostOne party ⌝ }
+    {
+        if party < 3 {
+            self.at_most_one[party]
+        } else {
+            0
+        }
+    }
+
+    // Whether the rule is unused in the run.
+    pub fn is_unused(self, run: usize, rule: u16) -> bool
+        ensures { λ r. ⌜ r ≡ factsOf self .unused run rule ⌝ }
+    {
+        if 3 <= run {
+            return false;
+        }
+        if Facts::RULES <= rule {
+            return false;
+        }
+        let i = rule as usize;
+        let word = 4 * run + i / 64;
+        bits::has(self.unused[word], i % 64)
+    }
+}

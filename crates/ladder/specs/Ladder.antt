@@ -1,0 +1,61 @@
+-- The ladder of a docket's sections (document 01, "The ladder"), and what the functions of the handover test answer.
+use mathlib.Core.Bool.{Bool, cond, not, _&&_, _||_}
+use mathlib.Core.List.{List, []}
+use Prim.Native.Nat.{ℕ, _+_}
+use lib.Dec.{leb, ltb, eqb}
+use Rattle.theory.specs.Test.{imp, bit}
+use Rattle.theory.specs.Below.{anyBelow}
+use Rattle.theory.specs.Protocol.{Protocol}
+use Rattle.theory.specs.Ladder.{isLower, fits}
+use Rattle.format.specs.Format.{ruleP, ruleQ, ruleP′, ruleQ′, ruleLayer, protocolOf}
+use Rattle.format.specs.declared.Sizes.{Sizes}
+use Rattle.ladder.specs.declared.Rule.{Rule}
+use Rattle.ladder.specs.declared.PreSequence.{PreSequence}
+pub mod Laws
+
+-- The protocol of the sections, for the ladder: it does not look at the section of states.
+abbrev pub ladderOf : Sizes → List ℕ → List ℕ → Protocol
+ladderOf z rules layers = protocolOf z [] rules layers
+
+-- Rule v is of a lower layer than s, and its before pair is inside the pre-sequence of s and u.
+unfoldable pub fitting : Protocol → ℕ → ℕ → ℕ → Bool
+fitting P s u v = isLower P v s && fits P s u v
+
+-- Rule u is of a lower layer than s, and no rule is fitting: handover fails at s.
+unfoldable pub uncovered : Protocol → ℕ → ℕ → Bool
+uncovered P s u = not (imp (isLower P u s) (anyBelow (P .rules) (fitting P s u)))
+
+-- ---- What the functions answer
+
+abbrev pub ruleOf : List ℕ → ℕ → Rule
+ruleOf rules r = record { p = ruleP rules r; q = ruleQ rules r; p2 = ruleP′ rules r; q2 = ruleQ′ rules r; layer = ruleLayer rules r }
+
+-- How often the state x stands in the pair a, b.
+abbrev pub inPair : ℕ → ℕ → ℕ → ℕ
+inPair a b x = bit (eqb a x) + bit (eqb b x)
+
+-- The state x where it stands fewer than k times in the pair a, b, and n where it does not.
+abbrev pub beyondOf : ℕ → ℕ → ℕ → ℕ → ℕ → ℕ
+beyondOf n a b x k = cond (ltb (inPair a b x) k) x n
+
+-- The pre-sequence of the rules s and u, of n states. Of the before pair of u, p is left where it is not in the after pair of s, and q where it stands there less often than in the before pair of u.
+abbrev pub preSequenceOf : ℕ → Rule → Rule → PreSequence
+preSequenceOf n s u =
+    record {
+      first = s .p;
+      second = s .q;
+      third = beyondOf n (s .p2) (s .q2) (u .p) 1;
+      fourth = beyondOf n (s .p2) (s .q2) (u .q) (inPair (u .p) (u .q) (u .q));
+    }
+
+-- x is no state, or j has as many agents of it as the pair p, q.
+abbrev pub coversOf : ℕ → PreSequence → ℕ → ℕ → ℕ → Bool
+coversOf n j p q x = leb n x || leb (inPair p q x) (inPair (j .first) (j .second) x + inPair (j .third) (j .fourth) x)
+
+-- x is a state of which j has no agent.
+abbrev pub absentOf : ℕ → PreSequence → ℕ → Bool
+absentOf n j x = ltb x n && not (eqb (j .first) x) && not (eqb (j .second) x) && not (eqb (j .third) x) && not (eqb (j .fourth) x)
+
+-- Rule v is of a layer below l, and j covers its before pair: it is enough to look at the two states of the pair.
+unfoldable pub fitsIn : ℕ → List ℕ → ℕ → PreSequence → ℕ → Bool
+fitsIn n rules l j v = ltb (ruleLayer rules v) l && (coversOf n j (ruleP rules v) (ruleQ rules v) (ruleP rules v) && coversOf n j (ruleP rules v) (ruleQ rules v) (ruleQ rules v))

@@ -1,0 +1,293 @@
+-- Laws for the functions of the ladder. Assumes nothing.
+use mathlib.Core.Path.{_≡_, refl, sym, ap, _∙_}
+use mathlib.Core.Bool.{Bool, true, false, not, _&&_, _||_}
+use mathlib.Core.List.{List, []}
+use mathlib.Core.Logic.{⊎-elim, by-cases}
+use Prim.Native.Nat.{ℕ, zero, suc, _+_, _-_, _≤_, _<_, min, max}
+use native.Mathlib.Decide.{decLt}
+use native.Mathlib.Numerals.{add-one}
+use native.Mathlib.Omega.{arith}
+use borrow.Author.Tests.{ltb-true, leb-true, leb-false, eqb-true, eqb-false, lt-ltb, le-ltb, le-leb, lt-leb, eq-eqb, ne-eqb, not-true, not-false}
+use lib.Dec.{leb, ltb, eqb}
+use mir.Val.{boolByte}
+use Rattle.theory.specs.Test.{imp, bit}
+use Rattle.theory.specs.Test.Laws.{by-test, not-both, is-false, and-elim, and-fails, or-resolve, or-fails, or-none, imp-intro}
+use Rattle.theory.specs.Below.{allBelow, anyBelow, firstBelow, sumBelow, least, greatest}
+use Rattle.theory.specs.Below.Laws.{all-elim, all-intro, any-elim, any-intro}
+use Rattle.theory.specs.Below.Scan.{Clear}
+use Rattle.theory.specs.Protocol.{Protocol}
+use Rattle.theory.specs.Ladder.{lowersAt, isLower, preSequence, fits, handoverAt, leastWeight, spread, spreads}
+use Rattle.format.specs.Bytes.{Value}
+use Rattle.format.specs.Format.{ruleP, ruleQ, ruleLayer, protocolOf}
+use Rattle.format.specs.declared.Sizes.{Sizes}
+use Rattle.ladder.specs.declared.Rule.{Rule}
+use Rattle.ladder.specs.declared.PreSequence.{PreSequence}
+use Rattle.ladder.specs.Ladder.{ladderOf, fitting, uncovered, ruleOf, inPair, beyondOf, preSequenceOf, coversOf, absentOf, fitsIn}
+
+-- ---- The ladder of the sections is that of the whole protocol
+
+module _ (z : Sizes) (states rules layers : List ℕ) where
+  pub lowersAt-sections : _≡_ {A = ℕ → Bool} (lowersAt (protocolOf z states rules layers)) (lowersAt (ladderOf z rules layers))
+  unfolding lowersAt
+  lowersAt-sections = refl
+
+  -- Handover does not look at the weights,
+  pub handoverAt-sections : _≡_ {A = ℕ → Bool} (handoverAt (protocolOf z states rules layers)) (handoverAt (ladderOf z rules []))
+  unfolding handoverAt isLower fits
+  handoverAt-sections = refl
+
+  -- and spreads do not look at the rules.
+  pub spread-sections : _≡_ {A = ℕ → ℕ} (spread (protocolOf z states rules layers)) (spread (ladderOf z [] layers))
+  unfolding spread leastWeight
+  spread-sections = refl
+
+  pub spreads-sections : spreads (protocolOf z states rules layers) ≡ spreads (ladderOf z [] layers)
+  unfolding spreads spread leastWeight
+  spreads-sections = refl
+
+  -- The answers of lowering_fault, handover_fault and spread_sum, for callers that speak of the whole protocol.
+  pub lowering-place : (i : ℕ) → i ≡ firstBelow (z .rules) (λ r. not (lowersAt (ladderOf z rules layers) r)) → i ≡ firstBelow (z .rules) (λ r. not (lowersAt (protocolOf z states rules layers) r))
+  unfolding lowersAt
+  lowering-place i e = e
+
+  pub handover-place : (i : ℕ) → i ≡ firstBelow (z .rules) (λ s. not (handoverAt (ladderOf z rules []) s)) → i ≡ firstBelow (z .rules) (λ s. not (handoverAt (protocolOf z states rules layers) s))
+  unfolding handoverAt isLower fits
+  handover-place i e = e
+
+  pub spreads-total : (w : ℕ) → w ≡ spreads (ladderOf z [] layers) → w ≡ spreads (protocolOf z states rules layers)
+  unfolding spreads spread leastWeight
+  spreads-total w e = e
+
+-- ---- Lowering at rule r, of layer l
+
+pub lowers-by : (P : Protocol) (r l p q p2 q2 before after : ℕ) → l ≡ P .layer r → p ≡ P .p r → q ≡ P .q r → p2 ≡ P .p′ r → q2 ≡ P .q′ r
+    → before ≡ P .weight l p + P .weight l q → after ≡ P .weight l p2 + P .weight l q2 → not (ltb after before) ≡ not (lowersAt P r)
+unfolding lowersAt
+lowers-by P r l p q p2 q2 before after el ep eq ep2 eq2 b a = rw (← el, ← ep, ← eq, ← ep2, ← eq2, ← b, ← a)
+
+-- ---- Pairs of states
+
+pub pair-fits : (s t : Bool) → Value 3 (bit s + bit t) (boolByte s + boolByte t)
+pair-fits true true = record { is = refl; small = omega arith }
+pair-fits true false = record { is = refl; small = omega arith }
+pair-fits false true = record { is = refl; small = omega arith }
+pair-fits false false = record { is = refl; small = omega arith }
+
+module _ (n a b x k m : ℕ) (e : m ≡ inPair a b x) where
+  pub beyond-short : m < k → x ≡ beyondOf n a b x k
+  beyond-short l = rw (lt-ltb (inPair a b x) k (omega arith))
+
+  pub beyond-enough : k ≤ m → n ≡ beyondOf n a b x k
+  beyond-enough l = rw (le-ltb (inPair a b x) k (omega arith))
+
+-- The number of states stands for no agent.
+beyond-at : (n a b y k x : ℕ) → x < n → bit (eqb (beyondOf n a b y k) x) ≡ bit (ltb (inPair a b y) k && eqb y x)
+beyond-at n a b y k x l = by-test (ltb (inPair a b y) k) (λ e. rw e) (λ e. rw (e, ne-eqb n x (λ d. omega arith)))
+
+one-short : (m : ℕ) → bit (ltb m 1) ≡ 1 - m
+one-short m = by-cases (decLt m 1) (λ h. rw (lt-ltb m 1 h) (omega arith)) (λ h. rw (le-ltb m 1 (omega arith)) (omega arith))
+
+two-short : (m : ℕ) → bit (ltb m 1) + bit (ltb m 2) ≡ 2 - m
+two-short m = by-cases (decLt m 2) (λ h. rw (lt-ltb m 2 h) (omega (arith, one-short m))) (λ h. rw (le-ltb m 2 (omega arith)) (omega (arith, one-short m)))
+
+and-true : (t : Bool) → (t && true) ≡ t
+and-true true = refl
+and-true false = refl
+
+and-false : (t : Bool) → (t && false) ≡ false
+and-false true = refl
+and-false false = refl
+
+module _ (n a b y k x : ℕ) (l : x < n) where
+  beyond-same : y ≡ x → (h : ℕ) → k ≡ h → bit (eqb (beyondOf n a b y k) x) ≡ bit (ltb (inPair a b x) h)
+  beyond-same e h d = beyond-at n a b y k x l ∙ rw (eq-eqb y x e, and-true, e, d)
+
+  beyond-other : (y ≡ x → ⊥) → bit (eqb (beyondOf n a b y k) x) ≡ 0
+  beyond-other d = beyond-at n a b y k x l ∙ rw (ne-eqb y x d, and-false)
+
+by-state : {X : Type 0} (a x : ℕ) → (a ≡ x → X) → ((a ≡ x → ⊥) → X) → X
+by-state a x f g = by-test (eqb a x) (λ e. f (eqb-true a x e)) (λ e. g (eqb-false a x e))
+
+bit-same : (a x : ℕ) → a ≡ x → bit (eqb a x) ≡ 1
+bit-same a x e = ap bit (eq-eqb a x e)
+
+bit-other : (a x : ℕ) → (a ≡ x → ⊥) → bit (eqb a x) ≡ 0
+bit-other a x d = ap bit (ne-eqb a x d)
+
+-- What the pair y, w has beyond the pair a, b, at each state.
+module _ (n a b y w x : ℕ) (l : x < n) where
+  left-over : inPair (beyondOf n a b y 1) (beyondOf n a b w (inPair y w w)) x ≡ inPair y w x - inPair a b x
+  left-over =
+      by-state y x
+      (λ e. by-state w x
+      (λ d. omega (arith, two-short (inPair a b x), beyond-same n a b y 1 x l e 1 refl, beyond-same n a b w (inPair y w w) x l d 2 (twice (e ∙ sym d)), bit-same y x e, bit-same w x d))
+      (λ d. omega (arith, one-short (inPair a b x), beyond-same n a b y 1 x l e 1 refl, beyond-other n a b w (inPair y w w) x l d, bit-same y x e, bit-other w x d)))
+      (λ e. by-state w x
+      (λ d. omega (arith, one-short (inPair a b x), beyond-other n a b y 1 x l e, beyond-same n a b w (inPair y w w) x l d 1 (once (λ f. e (f ∙ d))), bit-other y x e, bit-same w x d))
+      (λ d. omega (arith, beyond-other n a b y 1 x l e, beyond-other n a b w (inPair y w w) x l d, bit-other y x e, bit-other w x d)))
+    where
+      twice : y ≡ w → inPair y w w ≡ 2
+      twice e = omega (arith, bit-same y w e, bit-same w w refl)
+
+      once : (y ≡ w → ⊥) → inPair y w w ≡ 1
+      once d = omega (arith, bit-other y w d, bit-same w w refl)
+
+-- ---- Fitting
+
+-- Whether the pair p, q is inside J is decided at p and at q.
+module _ (n : ℕ) (H J : ℕ → ℕ) (same : (x : ℕ) → x < n → H x ≡ J x) (p q : ℕ) where
+  abbrev held : ℕ → Bool
+  held x = leb n x || leb (inPair p q x) (H x)
+
+  abbrev inside : ℕ → Bool
+  inside x = leb (inPair p q x) (J x)
+
+  held-inside : (x : ℕ) → x < n → held x ≡ true → inside x ≡ true
+  held-inside x l e = le-leb (inPair p q x) (J x) (omega (arith, same x l, leb-true (inPair p q x) (H x) (or-resolve (leb n x) _ (lt-leb n x l) e)))
+
+  not-inside : (x : ℕ) → held x ≡ false → allBelow n inside ≡ false
+  not-inside x e =
+      let f = or-fails (leb n x) (leb (inPair p q x) (H x)) e in
+      let l : x < n = leb-false n x (f .0) in
+      is-false _ (λ a. not-both (all-elim n inside a x l) (lt-leb (inPair p q x) (J x) (omega (arith, same x l, leb-false (inPair p q x) (H x) (f .1)))))
+
+  pair-inside : (held p && held q) ≡ allBelow n inside
+  pair-inside =
+      by-test (held p && held q)
+      (λ e. let f = and-elim (held p) (held q) e in e ∙ sym (all-intro n inside (each (f .0) (f .1))))
+      (λ e. e ∙ sym (⊎-elim (not-inside p) (not-inside q) (and-fails (held p) (held q) e)))
+    where
+      each : held p ≡ true → held q ≡ true → (x : ℕ) → x < n → inside x ≡ true
+      each f g x l =
+          by-state p x
+          (λ e. ap inside (sym e) ∙ held-inside p (omega arith) f)
+          (λ e. by-state q x
+          (λ d. ap inside (sym d) ∙ held-inside q (omega arith) g)
+          (λ d. le-leb (inPair p q x) (J x) (omega (arith, bit-other p x e, bit-other q x d))))
+
+-- A pair with a state that j lacks is not covered.
+absent-not-covered : (n : ℕ) (j : PreSequence) (p q : ℕ) → absentOf n j p ≡ true → coversOf n j p q p ≡ false
+absent-not-covered n j p q e =
+    let f4 = and-elim _ (not (eqb (j .fourth) p)) e in
+    let f3 = and-elim _ (not (eqb (j .third) p)) (f4 .0) in
+    let f2 = and-elim _ (not (eqb (j .second) p)) (f3 .0) in
+    let f1 = and-elim (ltb p n) (not (eqb (j .first) p)) (f2 .0) in
+    or-none _ _ (lt-leb n p (ltb-true p n (f1 .0)))
+    (lt-leb (inPair p q p) (inPair (j .first) (j .second) p + inPair (j .third) (j .fourth) p)
+    (omega (arith, bit-same p p refl, none-at (j .first) (f1 .1), none-at (j .second) (f2 .1), none-at (j .third) (f3 .1), none-at (j .fourth) (f4 .1))))
+  where
+    none-at : (a : ℕ) → not (eqb a p) ≡ true → bit (eqb a p) ≡ 0
+    none-at a d = ap bit (not-true (eqb a p) d)
+
+-- The branches of rule_fits: m is the layer of rule v, p, q its before pair.
+module _ (n : ℕ) (rules : List ℕ) (l : ℕ) (j : PreSequence) (v m : ℕ) (e : m ≡ ruleLayer rules v) where
+  pub fits-not-lower : l ≤ m → false ≡ fitsIn n rules l j v
+  unfolding fitsIn
+  fits-not-lower h = rw (le-ltb (ruleLayer rules v) l (omega arith))
+
+  pub fits-absent : (p : ℕ) (t : Bool) → m < l → p ≡ ruleP rules v → t ≡ absentOf n j p → t ≡ true → false ≡ fitsIn n rules l j v
+  unfolding fitsIn
+  fits-absent p t h d g k =
+      rw (lt-ltb (ruleLayer rules v) l (omega arith), absent-not-covered n j (ruleP rules v) (ruleQ rules v) (ap (absentOf n j) (sym d) ∙ sym g ∙ k))
+
+  module _ (p q : ℕ) (t : Bool) (h : m < l) (d : p ≡ ruleP rules v) (f : q ≡ ruleQ rules v) (g : t ≡ coversOf n j p q p) where
+    pub fits-second : t ≡ true → (b : Bool) → b ≡ coversOf n j p q q → b ≡ fitsIn n rules l j v
+    unfolding fitsIn
+    fits-second k b i = rw (lt-ltb (ruleLayer rules v) l (omega arith), ← d, ← f, sym g ∙ k) i
+
+    pub fits-not-first : t ≡ false → false ≡ fitsIn n rules l j v
+    unfolding fitsIn
+    fits-not-first k = rw (lt-ltb (ruleLayer rules v) l (omega arith), ← d, ← f, sym g ∙ k)
+
+module _ (z : Sizes) (rules : List ℕ) (s u : ℕ) where
+  fits-in : (v : ℕ) → fitsIn (z .states) rules (ruleLayer rules s) (preSequenceOf (z .states) (ruleOf rules s) (ruleOf rules u)) v ≡ fitting (ladderOf z rules []) s u v
+  unfolding fitsIn fitting isLower fits
+  fits-in v =
+      ap (λ (t : Bool). ltb (ruleLayer rules v) (ruleLayer rules s) && t)
+      (pair-inside (z .states)
+      (λ x. inPair (j .first) (j .second) x + inPair (j .third) (j .fourth) x)
+      (preSequence (ladderOf z rules []) s u)
+      (λ x l. omega (arith, left-over (z .states) (ruleOf rules s .p2) (ruleOf rules s .q2) (ruleP rules u) (ruleQ rules u) x l))
+      (ruleP rules v) (ruleQ rules v))
+    where
+      j : PreSequence
+      j = preSequenceOf (z .states) (ruleOf rules s) (ruleOf rules u)
+
+  -- The test of a turn of the search.
+  pub fits-turn : (v : ℕ) (a b : Rule) (j : PreSequence) (t : Bool) → a ≡ ruleOf rules s → b ≡ ruleOf rules u
+      → j ≡ preSequenceOf (z .states) a b → t ≡ fitsIn (z .states) rules (a .layer) j v
+      → t ≡ fitting (ladderOf z rules []) s u v
+  fits-turn v a b j t e d f g = cc (fits-in v)
+
+-- ---- Handover at rule s
+
+module _ (P : Protocol) (s u : ℕ) where
+  pub not-lower : P .layer s ≤ P .layer u → uncovered P s u ≡ false
+  unfolding uncovered isLower
+  not-lower l = rw (le-ltb (P .layer u) (P .layer s) l)
+
+  pub covered-by : (v : ℕ) → v < P .rules → fitting P s u v ≡ true → uncovered P s u ≡ false
+  unfolding uncovered
+  covered-by v l e = ap not (imp-intro (isLower P u s) _ (λ _. any-intro (P .rules) (fitting P s u) v l e))
+
+  pub covered-by-none : P .layer u < P .layer s → Clear (fitting P s u) (P .rules) → uncovered P s u ≡ true
+  unfolding uncovered isLower
+  covered-by-none l none =
+      rw (lt-ltb (P .layer u) (P .layer s) l, is-false (anyBelow (P .rules) (fitting P s u)) (λ e. let f = any-elim _ _ e in not-both (f .2) (none (f .0) (f .1))))
+
+module _ (P : Protocol) (s : ℕ) where
+  pub covered-passes : Clear (uncovered P s) (P .rules) → not (handoverAt P s) ≡ false
+  unfolding handoverAt uncovered fitting
+  covered-passes none = ap not (all-intro (P .rules) _ (λ u l. not-false _ (none u l)))
+
+  pub uncovered-fails : (u : ℕ) → u < P .rules → uncovered P s u ≡ true → not (handoverAt P s) ≡ true
+  unfolding handoverAt uncovered fitting
+  uncovered-fails u l e =
+      ap not (is-false (handoverAt P s) (λ a. not-both (all-elim (P .rules) (λ k. imp (isLower P k s) (anyBelow (P .rules) (fitting P s k))) a u l) (not-true _ e)))
+
+-- ---- Spreads
+
+-- The least and the greatest weight after a turn of the search.
+module _ (f : ℕ → ℕ) where
+  pub least-none : (w : ℕ) → w ≡ f 0 → w ≡ least 0 f
+  unfolding least
+  least-none w e = e
+
+  pub least-more : (i a w b : ℕ) → a ≡ least i f → w ≡ f i → b ≡ min a w → b ≡ least (i + 1) f
+  unfolding least
+  least-more i a w b d e g = rw (add-one i, ← d, ← e) g
+
+  pub greatest-none : (w : ℕ) → w ≡ f 0 → w ≡ greatest 0 f
+  unfolding greatest
+  greatest-none w e = e
+
+  pub greatest-more : (i a w b : ℕ) → a ≡ greatest i f → w ≡ f i → b ≡ max a w → b ≡ greatest (i + 1) f
+  unfolding greatest
+  greatest-more i a w b d e g = rw (add-one i, ← d, ← e) g
+
+  least-le-greatest : (n : ℕ) → least n f ≤ greatest n f
+  unfolding least greatest
+  least-le-greatest zero = omega arith
+  least-le-greatest (suc n) = omega (arith, least-le-greatest n)
+
+  pub low-le-high : (n a b : ℕ) → a ≡ least n f → b ≡ greatest n f → a ≤ b
+  low-le-high n a b d e = omega (arith, least-le-greatest n)
+
+  pub sum-none : 0 ≡ sumBelow 0 f
+  unfolding sumBelow
+  sum-none = refl
+
+  pub sum-more : (i a w : ℕ) → a ≡ sumBelow i f → w ≡ f i → a + w ≡ sumBelow (i + 1) f
+  unfolding sumBelow
+  sum-more i a w d e = rw (add-one i) (omega arith)
+
+module _ (P : Protocol) where
+  pub spread-is : (k n a b : ℕ) → n ≤ P .states → P .states ≤ n → a ≡ least n (P .weight k) → b ≡ greatest n (P .weight k) → b - a ≡ spread P k
+  unfolding spread leastWeight
+  spread-is k n a b l h d e = let f : n ≡ P .states = omega arith in rw (← f, ← d, ← e)
+
+  pub spreads-is : (n a : ℕ) → n ≤ P .layers → P .layers ≤ n → a ≡ sumBelow n (spread P) → a ≡ spreads P
+  unfolding spreads
+  spreads-is n a l h d = d ∙ ap (λ i. sumBelow i (spread P)) (let f : n ≡ P .layers = omega arith in f)
+
+pub ruleset extremes = (least-none, least-more, greatest-none, greatest-more)

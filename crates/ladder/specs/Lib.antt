@@ -1,0 +1,4 @@
+-- Definitions stand in specs/X.antt, their laws below them in specs/X/.
+pub mod Ladder
+pub mod Exact
+pub mod Samples

@@ -1,0 +1,3 @@
+-- Definitions stand in Leaf, their laws in Leaf.Laws.
+pub mod Leaf
+pub mod Samples

@@ -1,0 +1,46 @@
+-- `machine::is_standstill` meets its contract: a refused shape is passed back.
+use Rattle.machine.specs.Calls.{terminalOf}
+use Rattle.shape.specs.Shape.Laws.{sound-then, sound-else}
+use Rattle.shape.specs.Sound.Laws.{sound-at}
+use borrow.Author.Needs.{needs}
+use Rattle.machine.proofs.is_standstill.Statement.{statement}
+use Rattle.machine.proofs.is_standstill.Tie as tie
+
+read-shape-requires : tie.Need-read-shape-requires
+read-shape-requires c κs = search needs
+
+enum-known-shape : tie.Need-enum-known-shape
+enum-known-shape c = search needs
+
+enum-told : tie.Need-enum-told
+enum-told c = search needs
+
+number-of-requires : tie.Need-number-of-requires
+number-of-requires c κs = search needs
+
+place-of-requires : tie.Need-place-of-requires
+place-of-requires c κs = search needs
+
+returns : tie.Need-returns
+unfolding terminalOf
+returns c = search (sound-else, needs)
+
+is-standstill-in-requires : tie.Need-is-standstill-in-requires
+is-standstill-in-requires c κs = search (sound-at, needs)
+
+returns-2 : tie.Need-returns-2
+unfolding terminalOf
+returns-2 c = search (sound-then, needs)
+
+pub is-standstill-spec : {M : Type 1} → statement M
+is-standstill-spec =
+    tie.close
+    (tie.spec
+    read-shape-requires
+    enum-known-shape
+    enum-told
+    number-of-requires
+    place-of-requires
+    returns
+    is-standstill-in-requires
+    returns-2)

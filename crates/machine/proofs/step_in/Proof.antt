@@ -1,0 +1,66 @@
+-- `machine::step_in` meets its contract: each return is one case of the reply.
+use Rattle.machine.specs.Calls.Laws.{called-refused, counts-admitted, step-unknown, step-off, step-done, counts-small}
+use borrow.Author.Needs.{needs}
+use Rattle.machine.proofs.step_in.Statement.{statement}
+use Rattle.machine.proofs.step_in.Tie as tie
+
+counts-fault-requires : tie.Need-counts-fault-requires
+counts-fault-requires c κs = search needs
+
+same-length : tie.Need-same-length
+same-length c = search needs
+
+returns : tie.Need-returns
+returns c = search (called-refused, needs)
+
+cast-if2 : tie.Need-cast-if2
+cast-if2 c = search needs
+
+same-length-2 : tie.Need-same-length-2
+same-length-2 c = search needs
+
+returns-2 : tie.Need-returns-2
+returns-2 c = search (step-unknown, counts-admitted, needs)
+
+cast-rule : tie.Need-cast-rule
+cast-rule c = search needs
+
+rules-part-requires : tie.Need-rules-part-requires
+rules-part-requires c κs = search needs
+
+enabled-requires : tie.Need-enabled-requires
+enabled-requires c κs = search needs
+
+fire-requires : tie.Need-fire-requires
+fire-requires c κs = search (counts-small, needs)
+
+same-length-3 : tie.Need-same-length-3
+same-length-3 c = search needs
+
+returns-3 : tie.Need-returns-3
+returns-3 c = search (step-done, counts-admitted, needs)
+
+same-length-4 : tie.Need-same-length-4
+same-length-4 c = search needs
+
+returns-4 : tie.Need-returns-4
+returns-4 c = search (step-off, counts-admitted, needs)
+
+pub step-in-spec : {M : Type 1} → statement M
+step-in-spec =
+    tie.close
+    (tie.spec
+    counts-fault-requires
+    same-length
+    returns
+    cast-if2
+    same-length-2
+    returns-2
+    cast-rule
+    rules-part-requires
+    enabled-requires
+    fire-requires
+    same-length-3
+    returns-3
+    same-length-4
+    returns-4)

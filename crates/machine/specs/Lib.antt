@@ -1,0 +1,2 @@
+-- Definitions stand in specs/X.antt, their laws below them in specs/X/.
+pub mod Calls

@@ -1,0 +1,2 @@
+-- Definitions stand in Node, their laws in Node.Laws.
+pub mod Node

@@ -1,0 +1,3 @@
+-- Definitions stand in Tree, their laws in Tree.Laws, samples in Samples.
+pub mod Tree
+pub mod Samples

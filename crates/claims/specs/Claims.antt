@@ -2,23 +2,26 @@
 use mathlib.Core.Path.{_≡_}
 use mathlib.Core.Bool.{Bool, true, false, not, cond, _&&_, _||_}
 use mathlib.Core.List.{List, [], _∷_, _++_}
-use mathlib.Core.Logic.{_↔_}
+use mathlib.Core.Logic.{_↔_, _⊎_}
 use Prim.Native.Nat.{ℕ, suc, _+_, _*_, _≤_, _<_}
 use lib.ListN.{length}
 use lib.Dec.{eqb}
 use Rattle.theory.specs.Test.{imp}
 use Rattle.theory.specs.Protocol.{Protocol, size, enabled, terminal, Shows, Start, fires, after, meetings}
 use Rattle.theory.specs.Ladder.{handover, Breaks, QuietBelow, lowest, layered, spreads, rank}
-use Rattle.theory.specs.Tree.{next, disagreement, treeAnswer}
+use Rattle.theory.specs.Tree.{Answer, next, disagreement, treeAnswer}
+use Rattle.theory.specs.Tree as walk
 use Rattle.theory.specs.Machine.{Call, step, run, Reply, stepped, ran, refused, isRefused, meetingsOf, isSized, admitted, runNumbers, numbersOf}
 use Rattle.theory.specs.Claims.{Certified, AsPublished, Rank, WS², WS³}
 use Rattle.format.specs.Format.{headerOf, partsOf, protocolIn, treeOf, weightsOf}
 use Rattle.format.specs.declared.Header.{Header}
-use Rattle.shape.specs.Shape.{shapeOf}
+use Rattle.shape.specs.Judge.{Test}
+use Rattle.shape.specs.Judge.Laws.{Passes}
+use Rattle.shape.specs.Shape.{shapeTests, shapeOf}
 use Rattle.shape.specs.Sound.{SoundShape}
 use Rattle.shape.specs.declared.Shape.the-variants as shape-is
 use Rattle.leaf.specs.Leaf.{endWeight}
-use Rattle.checker.specs.Check.{figuresOf, checkOf}
+use Rattle.checker.specs.Check.{certificateTests, figuresOf, checkOf}
 use Rattle.checker.specs.declared.Figures.{Figures}
 use Rattle.checker.specs.declared.Checked.the-variants.{Accepted, Refused}
 use Rattle.machine.specs.Calls.{startOf, enabledOf, terminalOf, verdictOf, replyOf, countsOf}
@@ -30,6 +33,7 @@ pub mod Numbers
 pub mod Handover
 pub mod Lists
 pub mod Starts
+pub mod Refusals
 pub mod Proved
 
 -- ---- Demand 1: which refusals a call can give, and that a refused call changes nothing. The contracts of the code say that each call answers by the definition named here.
@@ -81,6 +85,26 @@ module _ (b : List ℕ) (h : Header) where
   abbrev pub figuresIn : Figures
   figuresIn = let x = partsOf b h in figuresOf (h .sizes) (x .states) (x .rules) (x .layers) (x .nodes)
 
+  -- Tests 1 to 11, in order: each has a number, places, and says which of its places are bad.
+  abbrev pub testsIn : List Test
+  testsIn = let x = partsOf b h in shapeTests b h ++ certificateTests (h .sizes) (x .states) (x .rules) (x .layers) (x .leaves)
+
+  -- The answer of the walk, which is tests 12 and 13.
+  abbrev pub walkIn : Answer
+  walkIn = treeAnswer (protocolIn b h) (disagreement (protocolIn b h) (weightsOf (h .sizes) (partsOf b h .leaves))) (treeOf (h .sizes) (partsOf b h .nodes))
+
+-- The refusal n, k is the first that fits: the tests before it have no bad place, its test has number n, and k is its lowest bad place.
+pub record FirstFits (ts : List Test) (n k : ℕ) : Type 0 where
+  pub earlier : List Test
+  pub test : Test
+  pub later : List Test
+  pub in-order : ts ≡ earlier ++ test ∷ later
+  pub earlier-pass : Passes earlier
+  pub number-is : test .number ≡ n
+  pub within : k < test .places
+  pub fits : test .bad k ≡ true
+  pub lowest-place : (j : ℕ) → j < k → test .bad j ≡ false
+
 abbrev pub IsAccepted : List ℕ → Type 0
 IsAccepted b = (f : Figures) × (checkOf b ≡ Accepted f)
 
@@ -91,6 +115,8 @@ pub record Demand2 (b : List ℕ) : Type 0 where
   pub figures : (h : Header) → Rules b h → checkOf b ≡ Accepted (figuresIn b h)
   -- A docket that is refused breaks a rule, whatever its header.
   pub refusals : (n k : ℕ) → checkOf b ≡ Refused n k → (h : Header) → Rules b h → ⊥
+  -- A refusal is given just where it is the first of tests 1 to 11 that fits, or where none of these fits and the walk gives it.
+  pub refusal-is : (n k : ℕ) → let h = headerOf b in (checkOf b ≡ Refused n k) ↔ (FirstFits (testsIn b h) n k ⊎ (Passes (testsIn b h) × (walkIn b h ≡ walk.refused n k)))
   -- The handover test is exact: it passes just where no group breaks the handover.
   pub handover-exact : (h : Header) → SoundShape b h
       → (handover (protocolIn b h) ≡ true) ↔ ((c : List ℕ) → length c ≡ h .sizes .states → (s : ℕ) → s < h .sizes .rules → Breaks (protocolIn b h) c s → ⊥)
@@ -109,22 +135,22 @@ pub record Settles (P : Protocol) (c : List ℕ) {X : Type 0} (last : List X →
   pub size-kept : (xs : List X) → size (last xs) ≡ size c
   -- A layer k once quiet together with all below it stays quiet through the rest of a layered list.
   pub quiet-stays : (k : ℕ) (xs ys zs : List X) → isLayered ((xs ++ ys) ++ zs) ≡ true → QuietBelow P (suc k) (last xs) → QuietBelow P (suc k) (last (xs ++ ys))
-  -- A layered list makes no more meetings than the rest bound, size times the sum of the spreads,
+  -- A layered list makes no more meetings than the rest bound, size times the sum of the spreads.
   pub rest-bound : (xs : List X) → isLayered xs ≡ true → met xs ≤ size c * spreads P
-  -- and where it makes as many as that it ends at a standstill.
+  -- A layered list that makes as many meetings as the rest bound ends at a standstill.
   pub rests : (xs : List X) → isLayered xs ≡ true → met xs ≡ size c * spreads P → terminal P (last xs) ≡ true
-  -- The same of the rank: each meeting of a layered list takes at least 1 off it.
+  -- Each meeting of a layered list takes at least 1 off the rank of its group, and one that makes as many meetings as the rank ends at a standstill.
   pub rank-falls : (xs : List X) → isLayered xs ≡ true → rank P (last xs) + met xs ≤ rank P c
   pub rests-by-rank : (xs : List X) → isLayered xs ≡ true → met xs ≡ rank P c → terminal P (last xs) ≡ true
   -- From a start, any two lists, layered or not, that end at a standstill have one verdict: every occupied state at both ends has it.
   pub one-output : Start P c → (xs ys : List X) → terminal P (last xs) ≡ true → terminal P (last ys) ≡ true → (v : Bool) × Shows P v (last xs) × Shows P v (last ys)
 
--- Lists of calls on the bytes b and counts c, each call on the counts that the one before it left: the counts at the end,
+-- The counts that a list of calls on the bytes b leaves, from counts c, each call on the counts that the one before it left.
 unfoldable pub lastOn : List ℕ → List ℕ → List Call → List ℕ
 lastOn b c [] = c
 lastOn b c (x ∷ xs) = lastOn b (countsOf b c x) xs
 
--- and the steps not refused plus the totals that the runs return.
+-- What such a list of calls reports: the steps not refused plus the totals that the runs return.
 unfoldable pub reportedOn : List ℕ → List ℕ → List Call → ℕ
 reportedOn b c [] = 0
 reportedOn b c (x ∷ xs) = meetingsOf (replyOf b c x) + reportedOn b (countsOf b c x) xs

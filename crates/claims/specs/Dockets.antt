@@ -48,7 +48,7 @@ exchanged =
     48 0) 52 0) 56 1) 60 0) 64 1) 68 1) 72 0) 76 1)
     32 1) 37 1) 42 0) 47 0
 
--- The same without the two nodes that make B absent at end 1.
+-- The majority docket without the two nodes that make B absent at end 1.
 abbrev pub withoutAbsent : List ℕ
 withoutAbsent =
     1 ∷ 0 ∷ 4 ∷ 0 ∷ 4 ∷ 0 ∷ 2 ∷ 0 ∷ 15 ∷ 0 ∷ 1 ∷ 0 ∷ 24 ∷ 0 ∷ 28 ∷ 0 ∷ 48 ∷ 0 ∷ 80 ∷ 0 ∷ 4 ∷ 1 ∷ 20 ∷ 1

@@ -27,6 +27,7 @@ use Rattle.tree.specs.Tree.{treeAnswerOf}
 use Rattle.checker.specs.Check.{certificateTests, treeCheck, partsCheck, certificateOf, checkOf}
 use Rattle.checker.specs.declared.Figures.{Figures}
 use Rattle.checker.specs.declared.Checked.the-variants.{Accepted, Refused}
+use Rattle.claims.specs.Claims.Refusals.{refusal-is}
 use Rattle.claims.specs.Claims.Handover.{refused-by-10}
 use Rattle.claims.specs.Claims.{Lowers, Rules, figuresIn, Demand2}
 
@@ -128,6 +129,7 @@ module _ (b : List ℕ) where
   demand-2 = record {
     exact = (λ a. kept-of (a .0) (a .1), λ k. (figuresIn b (k .0), accepted b (k .0) (k .1)));
     figures = accepted b;
+    refusal-is = refusal-is b;
     refusals = λ n i e h k. refused-not-accepted (sym e ∙ accepted b h k);
     handover-exact = λ h sound. handover-exact (protocolIn b h) (sound .parts .formed);
     handover-broken = λ s e. refused-by-10 b s e .0;

@@ -46,7 +46,7 @@ isOneOf n (m ∷ ms) = eqb n m || isOneOf n ms
 abbrev pub shapeAnd : List ℕ → List ℕ
 shapeAnd ns = 1 ∷ 2 ∷ 3 ∷ 4 ∷ 5 ∷ 6 ∷ 7 ∷ 8 ∷ ns
 
--- Those of a machine call: its tests of the counts come next, and then ns.
+-- The refusals of a machine call: those of tests 1 to 8, of its tests of the counts, and then ns.
 abbrev pub countsAnd : List ℕ → List ℕ
 countsAnd ns = shapeAnd (20 ∷ 21 ∷ ns)
 
@@ -109,9 +109,9 @@ abbrev pub IsAccepted : List ℕ → Type 0
 IsAccepted b = (f : Figures) × (checkOf b ≡ Accepted f)
 
 pub record Demand2 (b : List ℕ) : Type 0 where
-  -- Accepted if it keeps every rule, and not otherwise.
+  -- A docket is accepted if it keeps every rule, and not otherwise.
   pub exact : IsAccepted b ↔ ((h : Header) × Rules b h)
-  -- What is said of it is then its figures.
+  -- What is said of a docket that keeps every rule is its figures.
   pub figures : (h : Header) → Rules b h → checkOf b ≡ Accepted (figuresIn b h)
   -- A docket that is refused breaks a rule, whatever its header.
   pub refusals : (n k : ℕ) → checkOf b ≡ Refused n k → (h : Header) → Rules b h → ⊥
@@ -120,7 +120,7 @@ pub record Demand2 (b : List ℕ) : Type 0 where
   -- The handover test is exact: it passes just where no group breaks the handover.
   pub handover-exact : (h : Header) → SoundShape b h
       → (handover (protocolIn b h) ≡ true) ↔ ((c : List ℕ) → length c ≡ h .sizes .states → (s : ℕ) → s < h .sizes .rules → Breaks (protocolIn b h) c s → ⊥)
-  -- Refused by 10, it points at the lowest rule at which some group breaks it.
+  -- A refusal by 10 points at the lowest rule at which some group breaks the handover.
   pub handover-broken : (s : ℕ) → checkOf b ≡ Refused 10 s → (c : List ℕ) × (length c ≡ headerOf b .sizes .states) × Breaks (protocolIn b (headerOf b)) c s
   pub handover-lowest : (s : ℕ) → checkOf b ≡ Refused 10 s → (u : ℕ) → u < s → (c : List ℕ) → length c ≡ headerOf b .sizes .states → Breaks (protocolIn b (headerOf b)) c u → ⊥
   -- A docket that keeps every rule is a certificate of its protocol.
@@ -150,7 +150,7 @@ unfoldable pub lastOn : List ℕ → List ℕ → List Call → List ℕ
 lastOn b c [] = c
 lastOn b c (x ∷ xs) = lastOn b (countsOf b c x) xs
 
--- What such a list of calls reports: the steps not refused plus the totals that the runs return.
+-- What a list of calls on the bytes b, from counts c, reports: the steps not refused plus the totals that the runs return.
 unfoldable pub reportedOn : List ℕ → List ℕ → List Call → ℕ
 reportedOn b c [] = 0
 reportedOn b c (x ∷ xs) = meetingsOf (replyOf b c x) + reportedOn b (countsOf b c x) xs
@@ -168,10 +168,10 @@ module _ (P : Protocol) (c : List ℕ) (say : List ℕ → Call → Reply) (last
     pub steps : ℕ
     pub rests : Bool
     pub says : say (last xs) (run limit) ≡ ran steps rests
-    -- Its steps are its meetings, and it says rest just when it leaves a standstill.
+    -- The run's steps are its meetings, and it says rest just when it leaves a standstill.
     pub are-meetings : meetings P c (numbersOf P c (xs ++ run limit ∷ [])) ≡ meetings P c (numbersOf P c xs) + steps
     pub at-rest : rests ≡ terminal P (last (xs ++ run limit ∷ []))
-    -- It stops short of the limit only at rest.
+    -- The run stops short of its limit only at rest.
     pub limited : steps ≤ limit
     pub short : steps < limit → rests ≡ true
 

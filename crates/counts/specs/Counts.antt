@@ -24,6 +24,7 @@ statesThat f n s = ltb s 64 && (ltb s n && f s)
 unfoldable pub withIf : Bool → ℕ → (ℕ → Bool) → ℕ → Bool
 withIf t s A j = A j || (t && singleOf s j)
 
+-- Whether state s has the flag: bit 0 is the output, bit 1 is set for an input state.
 abbrev pub hasFlag : List ℕ → Flag → ℕ → Bool
 hasFlag states Output s = eqb (flags states s % 2) 1
 hasFlag states Input s = eqb (flags states s / 2 % 2) 1

@@ -121,6 +121,9 @@ pub fn choose(rules: &[u8], z: Sizes, counts: &[u32]) -> u16
         let l = format::rule_layer(rules, r);
         if l < low {
             if enabled(rules, z, counts, r) {
+                if l == 0 {
+                    return r;
+                }
                 best = r;
                 low = l;
             }

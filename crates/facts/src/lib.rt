@@ -59,7 +59,7 @@ impl Facts {
         self
     }
 
-    // Each state of the set holds at most one worker at the party.
+    // Each state of the set holds at most one agent at the party.
     pub fn mark_at_most_one(mut self, party: usize, set: u64) -> Facts
         ensures { λ r. ⌜ factsOf r ≡ withAtMostOne (factsOf self) party (onlyIf (ltb party 3) (member set)) ⌝ }
     {
@@ -101,7 +101,7 @@ impl Facts {
         if party < 3 { self.present[party] } else { 0 }
     }
 
-    // The states that hold at most one worker at the party.
+    // The states that hold at most one agent at the party.
     pub fn at_most_one(self, party: usize) -> u64
         ensures { λ r. ⌜ member r ≡ factsOf self .atMostOne party ⌝ }
     {

@@ -47,7 +47,7 @@ module _ (z : Sizes) (states rules layers : List ℕ) where
     unfolding fails
     first = handover-place z states rules layers s e
 
-    -- It passes just where no configuration, of any size, breaks the handover at any rule.
+    -- The handover test passes just where no configuration, of any size, breaks the handover at any rule.
     pub handover-passes : (s ≡ z .rules) ↔ ((c : List ℕ) → length c ≡ z .states → (k : ℕ) → k < z .rules → Breaks P c k → ⊥)
     unfolding handover fails
     handover-passes =
@@ -55,12 +55,12 @@ module _ (z : Sizes) (states rules layers : List ℕ) where
         let exact = handover-exact P (sound .formed) in
         (λ h. exact .0 (all .0 (sym first ∙ h)), λ none. first ∙ all .1 (exact .1 none))
 
-    -- It points at a rule at which some configuration breaks the handover,
+    -- Where the handover test fails at rule s, some configuration breaks the handover at s.
     pub handover-fails : s < z .rules → (c : List ℕ) × (length c ≡ z .states) × Breaks P c s
     unfolding fails
     handover-fails l = handoverAt-fails P (sound .formed) s l (not-true _ (ap fails first ∙ first-passes (z .rules) fails (omega (arith, first))))
 
-    -- and at no lower rule does one.
+    -- No configuration breaks the handover at a rule below s.
     pub handover-lowest : (k : ℕ) → k < s → (c : List ℕ) → length c ≡ z .states → Breaks P c k → ⊥
     unfolding fails
     handover-lowest k l =

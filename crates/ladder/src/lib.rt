@@ -150,7 +150,7 @@ pub fn handover_fault(rules: &[u8], z: Sizes) -> u16
         let rule = read_rule(rules, s);
         let layer = rule.layer;
         let mut u: u16 = 0;
-        'lower: while u < z.rules {
+        while u < z.rules {
             let other = read_rule(rules, u);
             if other.layer < layer {
                 let j = pre_sequence(n, rule, other);

@@ -50,7 +50,7 @@ module _ (z : Sizes) (leaves : List ℕ) (l : ℕ) where
   unfoldable pub faultOf : Fault → ℕ → Bool
   faultOf (Limit e) s = ltb 20000 (endWeight z leaves l e s)
   faultOf (Start absent) s = not (member absent s) && ltb 20000 (endWeight z leaves l 0 s + endWeight z leaves l 1 s)
-  faultOf (End e excused) s = not (member excused s) && ltb (endWeight z leaves l e s) 10000
+  faultOf (End e allowed) s = not (member allowed s) && ltb (endWeight z leaves l e s) 10000
 
   -- What the sums take of state s.
   unfoldable pub termOf : Term → ℕ → ℕ

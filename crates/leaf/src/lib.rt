@@ -68,8 +68,8 @@ fn faulty(leaves: &[u8], z: Sizes, l: u16, t: Fault, s: u16) -> bool
         Fault::Start(absent) => {
             !bits::has(absent, s as usize) & (20000 < two_weights(leaves, z, l, 0, s, 1, s))
         }
-        Fault::End(e, excused) => {
-            !bits::has(excused, s as usize)
+        Fault::End(e, allowed) => {
+            !bits::has(allowed, s as usize)
                 & (format::leaf_weight(leaves, z.states, l, e, s) < 10000)
         }
     }
@@ -136,7 +136,7 @@ fn rule_increases(
     before < after
 }
 
-// The first such rule, or the number of rules.
+// The first rule that increases the weight in run e + 1, or the number of rules.
 fn first_increase(facts: Facts, rules: &[u8], leaves: &[u8], z: Sizes, l: u16, e: u16) -> u16
     ensures { λ r. ⌜ r ≡ firstBelow (z .rules) (increases z (now (rules .entry)) (now (leaves .entry)) (factsOf facts) l e) ⌝ }
 {
@@ -200,17 +200,17 @@ fn total(leaves: &[u8], z: Sizes, l: u16, t: Term) -> u64
     sum
 }
 
-// Whether each weight is of a sign that the facts allow: at most 0 at the start, at an end 0 or more unless there is at most one worker.
+// Whether each weight is of a sign that the facts allow: at most 0 at the start, at an end 0 or more unless there is at most one agent.
 fn weights_fit(facts: Facts, leaves: &[u8], z: Sizes, l: u16) -> bool
     ensures { λ r. ⌜ r ≡ weightsFit (tableOf z []) (factsOf facts) (weightsOf z (now (leaves .entry)) l) ⌝ }
 {
     let start = known_at(facts, 0);
     let first = known_at(facts, 1);
     let second = known_at(facts, 2);
-    let excused = bits::union(first.absent, first.at_most_one);
-    let at_first = first_fault(leaves, z, l, Fault::End(0, excused));
-    let excused = bits::union(second.absent, second.at_most_one);
-    let at_second = first_fault(leaves, z, l, Fault::End(1, excused));
+    let allowed = bits::union(first.absent, first.at_most_one);
+    let at_first = first_fault(leaves, z, l, Fault::End(0, allowed));
+    let allowed = bits::union(second.absent, second.at_most_one);
+    let at_second = first_fault(leaves, z, l, Fault::End(1, allowed));
     let at_start = first_fault(leaves, z, l, Fault::Start(start.absent));
     !(at_start < z.states) & !(at_first < z.states) & !(at_second < z.states)
 }

@@ -33,7 +33,7 @@ module _ (P : Protocol) (c : List ℕ) where
   unfoldable pub enabledAnswer : ℕ → Answer
   enabledAnswer r = admit P c (λ n. answer.Refused n 0) (cond (ltb r (P .rules)) (answer.Is (enabled P c r)) (answer.Refused 23 r))
 
-  -- Whether it is a standstill.
+  -- Whether the counts are a standstill.
   unfoldable pub terminalAnswer : Answer
   terminalAnswer = admit P c (λ n. answer.Refused n 0) (answer.Is (terminal P c))
 
@@ -45,7 +45,7 @@ module _ (P : Protocol) (c : List ℕ) where
   unfoldable pub verdictAnswer : Verdict
   verdictAnswer = admit P c (λ n. shown.Refused n 0) (verdictAs (verdict P c))
 
--- ---- The same on a docket's bytes b
+-- ---- Calls that change nothing, on a docket's bytes b
 
 module _ (b c : List ℕ) where
   unfoldable pub startOf : Started
@@ -83,7 +83,7 @@ pub record Called (P : Protocol) (c : List ℕ) (x : Call) (said : Reply) (d : L
   pub says : said ≡ reply P c x
   pub leaves : d ≡ countsAfter P c x
 
--- The same of a docket's bytes.
+-- A call x on counts c of the docket with bytes b says `said` and leaves the counts d.
 pub record CalledOn (b c : List ℕ) (x : Call) (said : Reply) (d : List ℕ) : Type 0 where
   pub says : said ≡ replyOf b c x
   pub leaves : d ≡ countsOf b c x

@@ -1,7 +1,7 @@
 -- What one node of the tree comes to (document 01, "The tree"), over the bytes and words that the code has.
 use mathlib.Core.Bool.{Bool, true, false, cond, Bool·beq, _&&_, _||_}
 use mathlib.Core.List.{List, [], _∷_}
-use Prim.Native.Nat.{ℕ, _/_, _%_, _^_, _≤_, _<_}
+use Prim.Native.Nat.{ℕ, _^_, _≤_, _<_}
 use lib.Dec.{leb, ltb, eqb}
 use Rattle.theory.specs.Test.{member, imp}
 use Rattle.theory.specs.Below.{allBelow}
@@ -10,11 +10,9 @@ use Rattle.theory.specs.Facts.{Facts, withAbsent, withAtMostOne, withUnused}
 use Rattle.theory.specs.Tree as theory
 use Rattle.theory.specs.Tree.{Assumption, refusalNumber, ground, children, disagreement, touches, node}
 use Rattle.bits.specs.Word.{fullOf}
-use Rattle.format.specs.Format.{flags, ruleP, ruleQ, ruleP′, ruleQ′, ruleLayer, nodeKind, nodeParty, nodeArgument, nodeSet, treeOf, weightsOf}
+use Rattle.format.specs.Format.{ruleP, ruleQ, ruleP′, ruleQ′, ruleLayer, nodeKind, nodeParty, nodeArgument, nodeSet, treeOf, weightsOf}
 use Rattle.format.specs.declared.Sizes.{Sizes}
 use Rattle.facts.specs.Facts.{factsOf}
-use Rattle.node.specs.declared.Flag.{Flag}
-use Rattle.node.specs.declared.Flag.the-variants.{Output, Input}
 use Rattle.node.specs.declared.Node.{Node}
 use Rattle.node.specs.declared.Outcome.{Outcome}
 use Rattle.node.specs.declared.Outcome.the-variants.{Refused, Closed, Child, Children}
@@ -22,11 +20,6 @@ use Rattle.node.specs.declared.Step.{Step}
 pub mod Laws
 
 -- ---- What the code reads of a docket
-
--- Whether state s has the flag: bit 0 is the output, bit 1 is set for an input state.
-abbrev pub flagOf : List ℕ → Flag → ℕ → Bool
-flagOf states Output s = eqb (flags states s % 2) 1
-flagOf states Input s = eqb (flags states s / 2 % 2) 1
 
 -- The states of A among n states. A word holds those below 64.
 unfoldable pub among : ℕ → (ℕ → Bool) → ℕ → Bool
@@ -41,8 +34,8 @@ abbrev pub nodeOf : List ℕ → ℕ → Node
 nodeOf nodes i = record { kind = nodeKind nodes i; party = nodeParty nodes i; argument = nodeArgument nodes i; set = nodeSet nodes i }
 
 -- The protocol of the rules section, with the set of the states of output 1. A node uses neither inputs nor weights of layers.
-abbrev pub tableOf : Sizes → List ℕ → ℕ → Protocol
-tableOf z rules outputs =
+abbrev pub nodeTable : Sizes → List ℕ → ℕ → Protocol
+nodeTable z rules outputs =
     record {
       states = z .states;
       rules = z .rules;
@@ -96,14 +89,14 @@ check false n t = refuse n
 abbrev pub settled : Bool → Bool → List Facts → Turn
 settled fields ground Fs = check fields 12 (check ground 13 (goOn Fs))
 
--- The same, as theory says it of node n on the facts F.
+-- What node n comes to on the facts F, in the terms of theory.
 unfoldable pub turn : Protocol → Assumption → Facts → theory.Node → Turn
 turn P H F n = check (ground P H F n) (refusalNumber n) (goOn (children P F n))
 
 -- What node i of the sections comes to, where outputs is the set of the states of output 1.
 unfoldable pub turnAt : Sizes → List ℕ → List ℕ → List ℕ → ℕ → Facts → ℕ → Turn
 turnAt z rules nodes leaves outputs F i =
-    let P = tableOf z rules outputs in
+    let P = nodeTable z rules outputs in
     let H = disagreement P (weightsOf z leaves) in
     turn P H F (node P H (treeOf z nodes) i)
 
@@ -149,4 +142,4 @@ disabledChildren F k p q =
 
 -- Kinds 5 and 6: the set is absent at party `to`, and the rules that touch it are unused in the node's run.
 abbrev pub setChild : Sizes → List ℕ → Facts → ℕ → Node → Facts
-setChild z rules F to n = withUnused (withAbsent F to (member (n .set))) (n .party) (touches (tableOf z rules 0) (member (n .set)))
+setChild z rules F to n = withUnused (withAbsent F to (member (n .set))) (n .party) (touches (nodeTable z rules 0) (member (n .set)))

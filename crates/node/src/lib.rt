@@ -10,17 +10,9 @@ ghost use Rattle.theory.specs.Leaf.{leafCloses};
 ghost use Rattle.theory.specs.Tree.{touches, within};
 ghost use Rattle.format.specs.Format.{ruleP, ruleQ, weightsOf};
 ghost use Rattle.facts.specs.Facts.{factsOf, onlyIf};
-ghost use Rattle.node.specs.Node.{flagOf, among, assumedOf, nodeOf, tableOf, SoundRules, check, settled, turnBy, turnOf, leafFields, runFields, stateFields, ruleFields, setFields, disabledChildren, setChild, takesFrom, putsInto, keeps, isTrapOf, turnAt};
+ghost use Rattle.node.specs.Node.{among, assumedOf, nodeOf, nodeTable, SoundRules, check, settled, turnBy, turnOf, leafFields, runFields, stateFields, ruleFields, setFields, disabledChildren, setChild, takesFrom, putsInto, keeps, isTrapOf, turnAt};
 use facts::Facts;
 use format::Sizes;
-
-// A flag of a state.
-pub enum Flag {
-    // Output 1.
-    Output,
-    // An input state.
-    Input,
-}
 
 // The fields of a node.
 pub struct Node {
@@ -43,30 +35,6 @@ pub struct Step {
     pub outcome: Outcome,
     pub first: Facts,
     pub second: Facts,
-}
-
-fn has_flag(states: &[u8], f: Flag, s: u16) -> bool
-    ensures { λ r. ⌜ r ≡ flagOf (now (states .entry)) f s ⌝ }
-{
-    match f {
-        Flag::Output => format::state_flags(states, s) % 2 == 1,
-        Flag::Input => format::state_flags(states, s) / 2 % 2 == 1,
-    }
-}
-
-// The set of the states that have the flag.
-pub fn states_with(states: &[u8], z: Sizes, f: Flag) -> u64
-    ensures { λ r. ⌜ member r ≡ among (z .states) (flagOf (now (states .entry)) f) ⌝ }
-{
-    let mut set: u64 = 0;
-    let mut s: u16 = 0;
-    while s < z.states {
-        if has_flag(states, f, s) {
-            set = bits::union(set, bits::single(s as usize));
-        }
-        s += 1;
-    }
-    set
 }
 
 fn node_at(nodes: &[u8], i: u16) -> Node
@@ -124,7 +92,7 @@ fn assumed_states(outputs: u64, z: Sizes, party: usize) -> u64
 
 // Kind 0: the leaf rule.
 fn leaf_step(rules: &[u8], leaves: &[u8], z: Sizes, n: Node, facts: Facts) -> Step
-    ensures { λ r. ⌜ turnOf r ≡ settled (leafFields z n) (leafCloses (tableOf z (now (rules .entry)) 0) (factsOf facts) (weightsOf z (now (leaves .entry)) (n .argument))) [] ⌝ }
+    ensures { λ r. ⌜ turnOf r ≡ settled (leafFields z n) (leafCloses (nodeTable z (now (rules .entry)) 0) (factsOf facts) (weightsOf z (now (leaves .entry)) (n .argument))) [] ⌝ }
 {
     let fields = (n.party == 0) & (n.argument < z.leaves) & (n.set == 0);
     let closes = leaf::leaf_closes(facts, rules, leaves, z, n.argument);
@@ -134,7 +102,7 @@ fn leaf_step(rules: &[u8], leaves: &[u8], z: Sizes, n: Node, facts: Facts) -> St
 // Kind 1: all states of the output assumed for an end are absent there.
 fn output_step(outputs: u64, z: Sizes, n: Node, facts: Facts) -> Step
     requires { ⌜ z .states ≤ 64 ⌝ }
-    ensures { λ r. ⌜ turnOf r ≡ settled (runFields n) (within (tableOf z [] outputs) (assumedOf outputs (n .party)) (factsOf facts .absent (n .party))) [] ⌝ }
+    ensures { λ r. ⌜ turnOf r ≡ settled (runFields n) (within (nodeTable z [] outputs) (assumedOf outputs (n .party)) (factsOf facts .absent (n .party))) [] ⌝ }
 {
     let fields = (1 <= n.party) & (n.party <= 2) & (n.argument == 0) & (n.set == 0);
     let assumed = assumed_states(outputs, z, n.party);
@@ -226,7 +194,7 @@ fn is_trap(rules: &[u8], z: Sizes, facts: Facts, run: usize, set: u64, reversed:
 // The rules that touch the set are unused in the run.
 fn mark_touching(rules: &[u8], z: Sizes, facts: Facts, run: usize, set: u64) -> Facts
     requires { ⌜ z .rules ≤ 256 ⌝ }
-    ensures { λ x. ⌜ factsOf x ≡ withUnused (factsOf facts) run (onlyIf (ltb run 3) (touches (tableOf z (now (rules .entry)) 0) (member set))) ⌝ }
+    ensures { λ x. ⌜ factsOf x ≡ withUnused (factsOf facts) run (onlyIf (ltb run 3) (touches (nodeTable z (now (rules .entry)) 0) (member set))) ⌝ }
 {
     if 3 <= run {
         return facts;
@@ -254,7 +222,7 @@ fn set_step(
 ) -> Step
     requires { ⌜ SoundRules z (now rules) ⌝ }
     requires { ⌜ to ≤ n .party ⌝ }
-    ensures { λ r. ⌜ turnOf r ≡ settled (setFields z n) (within (tableOf z (now (rules .entry)) 0) (member (n .set)) (factsOf facts .absent from) && isTrapOf reversed z (now (rules .entry)) (factsOf facts .unused (n .party)) (member (n .set))) (setChild z (now (rules .entry)) (factsOf facts) to n ∷ []) ⌝ }
+    ensures { λ r. ⌜ turnOf r ≡ settled (setFields z n) (within (nodeTable z (now (rules .entry)) 0) (member (n .set)) (factsOf facts .absent from) && isTrapOf reversed z (now (rules .entry)) (factsOf facts .unused (n .party)) (member (n .set))) (setChild z (now (rules .entry)) (factsOf facts) to n ∷ []) ⌝ }
 {
     let within = bits::subset(n.set, bits::full(z.states as usize));
     let fields = (1 <= n.party) & (n.party <= 2) & (n.argument == 0) & ((0 < n.set) & within);

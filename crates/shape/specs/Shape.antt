@@ -16,6 +16,7 @@ use Rattle.shape.specs.declared.Outcome.the-variants.{Passed, Failed}
 use Rattle.shape.specs.declared.Shape.{Shape}
 use Rattle.shape.specs.declared.Shape.the-variants.{Sound, Refused}
 pub mod Laws
+pub mod Marks
 
 -- ---- Tests of the header
 
@@ -115,7 +116,7 @@ shapeTests b h =
 unfoldable pub partOutcome : Sizes → List ℕ → List ℕ → List ℕ → Outcome
 partOutcome z states rules layers = judge Failed Passed (partTests z states rules layers)
 
--- The same as a shape with header h.
+-- An outcome of part_tests as a shape with header h.
 abbrev pub asShape : Header → Outcome → Shape
 asShape h Passed = Sound h
 asShape h (Failed n k) = Refused n k

@@ -1,12 +1,13 @@
 // Tests 1 to 8 of a docket, which every call makes first. Any bytes may be given.
 ghost use mathlib.Core.Path.{_≡_};
-ghost use mathlib.Core.Bool.{not, _||_};
+ghost use mathlib.Core.Bool.{not, _||_, _&&_};
 ghost use mathlib.Core.List.{[], _∷_};
 ghost use Prim.Native.Nat.{_+_};
 ghost use lib.Dec.{eqb, ltb};
 ghost use lib.ListN.{length};
 ghost use Rattle.theory.specs.Below.{firstBelow};
 ghost use Rattle.shape.specs.Shape.{countFaults, offsetFaults, nth, badState, badRule, repeats, badLayer, partOutcome, asShape, headerShape, shapeOf, numberOf, placeOf, holdsOf};
+use facts::Facts;
 use format::Header;
 use format::Sizes;
 
@@ -68,8 +69,8 @@ pub fn count_fault(z: Sizes) -> u32
     ensures { λ r. ⌜ r ≡ firstBelow 5 (nth (countFaults z)) ⌝ }
 {
     first_true(
-        (z.states < 2) | (64 < z.states),
-        256 < z.rules,
+        (z.states < 2) | (Facts::STATES < z.states),
+        Facts::RULES < z.rules,
         (16 < z.layers) | (z.layers != 0) & (z.rules == 0) | (z.layers == 0) & (z.rules != 0),
         (z.nodes < 1) | (2048 < z.nodes),
         128 < z.leaves,
@@ -166,21 +167,29 @@ fn state_fault(states: &[u8], z: Sizes) -> u32
     n as u32
 }
 
-fn rule_repeats(rules: &[u8], z: Sizes, r: u16) -> bool
-    ensures { λ t. ⌜ t ≡ repeats (now (rules .entry)) r ⌝ }
+// Whether an earlier rule has the before pair of rule r. No search where it is not marked.
+fn rule_repeats(rules: &[u8], z: Sizes, marked: bool, r: u16) -> bool
+    ensures { λ t. ⌜ t ≡ (marked && repeats (now (rules .entry)) r) ⌝ }
 {
-    first(rules, z, Property::Pair(r), r) < r
+    if marked {
+        return first(rules, z, Property::Pair(r), r) < r;
+    }
+    false
 }
 
-// Test 7: the first rule that has the before pair of an earlier one, or the number of rules.
+// Test 7: the first rule that has the before pair of an earlier one, or the number of rules. The pairs met so far are marked, p and q modulo 64, so that only a pair that is marked is searched for.
 fn repeat_fault(rules: &[u8], z: Sizes) -> u16
     ensures { λ i. ⌜ i ≡ firstBelow (z .rules) (repeats (now (rules .entry))) ⌝ }
 {
+    let mut marks: [u64; 64] = [0; 64];
     let mut i: u16 = 0;
     while i < z.rules {
-        if rule_repeats(rules, z, i) {
+        let p = format::rule_p(rules, i) % 64;
+        let q = format::rule_q(rules, i) % 64;
+        if rule_repeats(rules, z, bits::has(marks[p], q), i) {
             return i;
         }
+        marks[p] = bits::union(marks[p], bits::single(q));
         i += 1;
     }
     i

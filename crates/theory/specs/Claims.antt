@@ -44,9 +44,9 @@ module _ (P : Protocol) where
     pub quiet-stays : (k : ℕ) (xs ys zs : List X) → isLayered ((xs ++ ys) ++ zs) ≡ true → QuietBelow P (suc k) (last xs) → QuietBelow P (suc k) (last (xs ++ ys))
     -- A layered list makes no more meetings than size times the sum of the spreads.
     pub rest-bound : (xs : List X) → isLayered xs ≡ true → met xs ≤ size c * spreads P
-    -- A layered list that makes exactly as many as that ends terminal.
+    -- A layered list that makes exactly as many meetings as size times the sum of the spreads ends terminal.
     pub rests : (xs : List X) → isLayered xs ≡ true → met xs ≡ size c * spreads P → terminal P (last xs) ≡ true
-    -- Each meeting of a layered list takes at least 1 off the rank, which is no greater than that bound (Rank).
+    -- Each meeting of a layered list takes at least 1 off the rank, which is no greater than size times the sum of the spreads (Rank).
     pub rank-falls : (xs : List X) → isLayered xs ≡ true → rank P (last xs) + met xs ≤ rank P c
     -- A layered list that makes as many meetings as the rank of c ends terminal.
     pub rests-by-rank : (xs : List X) → isLayered xs ≡ true → met xs ≡ rank P c → terminal P (last xs) ≡ true
@@ -81,9 +81,9 @@ module _ (P : Protocol) where
 
   -- Lists of step and run calls in any order, refused ones included, from counts that pass 20 and 21: the calls xs make the list of rule numbers numbersOf P c xs.
   pub record OfCalls (c : List ℕ) : Type 0 where
-    -- The counts at the end are that list's last configuration.
+    -- The counts at the end are the last configuration of the list of rule numbers.
     pub counts : (xs : List Call) → lastCounts P c xs ≡ after P c (numbersOf P c xs)
-    -- Its meetings are the steps not refused plus the totals that the runs return.
+    -- The meetings of the list are the steps not refused plus the totals that the runs return.
     pub total : (xs : List Call) → reported P c xs ≡ meetings P c (numbersOf P c xs)
     -- A step adds its number, a run the numbers that it uses.
     pub step-adds : (xs : List Call) (r : ℕ) → numbersOf P c (xs ++ step r ∷ []) ≡ numbersOf P c xs ++ r ∷ []
@@ -134,7 +134,7 @@ module _ (P : Protocol) where
 
   -- Layered Termination (Definition 4.1); the ordered partition is that of the rules by their layers, layer 0 first.
   pub record LayeredTermination : Type 0 where
-    -- It is a partition: every rule is of one of the layers, and no layer is empty.
+    -- The layers are a partition: every rule is of one of the layers, and no layer is empty.
     pub covers : (r : ℕ) → r < P .rules → P .layer r < P .layers
     pub non-empty : (i : ℕ) → i < P .layers → (r : ℕ) × (r < P .rules) × (P .layer r ≡ i)
     -- (a) Every execution of layer i alone is silent: from one configuration it makes at most so many meetings, however it goes on.

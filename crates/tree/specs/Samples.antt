@@ -17,7 +17,7 @@ node-of kind party set rest = kind ∷ party ∷ 0 ∷ 0 ∷ set ∷ 0 ∷ 0 ∷
 abbrev nodes : ℕ → List ℕ
 nodes set = node-of 3 1 0 (node-of 1 1 0 (node-of 5 1 set (node-of 6 2 2 (node-of 1 2 0 (node-of 1 2 0 [])))))
 
--- The answer of its first n nodes.
+-- The answer of the first n nodes of the broadcast docket, with this set in node 2.
 abbrev answer : ℕ → ℕ → Answer
 answer n set =
     treeAnswerOf (record { states = 2; rules = 1; layers = 1; nodes = n; leaves = 0 }) (2 ∷ 3 ∷ []) (0 ∷ 1 ∷ 1 ∷ 1 ∷ 0 ∷ []) [] (nodes set) []

@@ -6,7 +6,7 @@ use Rattle.theory.specs.Tree.{Answer, next, refused, disagreement, treeAt, tree
 use Rattle.bits.specs.Word.{sizeOf}
 use Rattle.format.specs.Format.{nodeSet, protocolOf, treeOf, weightsOf}
 use Rattle.format.specs.declared.Sizes.{Sizes}
-use Rattle.node.specs.Node.{tableOf}
+use Rattle.node.specs.Node.{nodeTable}
 use Rattle.tree.specs.declared.Walk.{Walk}
 use Rattle.tree.specs.declared.Walk.the-variants.{Next, Refused}
 pub mod Laws
@@ -19,7 +19,7 @@ answerOf (Refused n i) = refused n i
 -- The walk from node i on the facts F, which may be d nodes deep, where outputs is the set of the states of output 1.
 unfoldable pub walkOf : Sizes → List ℕ → List ℕ → List ℕ → ℕ → ℕ → Facts → ℕ → Answer
 walkOf z rules nodes leaves outputs d F i =
-    let P = tableOf z rules outputs in
+    let P = nodeTable z rules outputs in
     treeAt P (disagreement P (weightsOf z leaves)) (treeOf z nodes) d F i
 
 -- The answer of the whole tree, with the sections states, rules, layers, nodes and leaves: next N where it is accepted, else the refusal. It does not use the layers.

@@ -5,9 +5,9 @@ ghost use Prim.Native.Nat.{max};
 ghost use Rattle.facts.specs.Facts.{factsOf};
 ghost use Rattle.node.specs.Node.{SoundRules};
 ghost use Rattle.tree.specs.Tree.{answerOf, walkOf, treeAnswerOf, widestOf};
+use counts::Flag;
 use facts::Facts;
 use format::Sizes;
-use node::Flag;
 use node::Outcome;
 
 // Where a walk comes to: the next node, or a refusal with its number and place.
@@ -66,8 +66,8 @@ pub fn check_tree(states: &[u8], rules: &[u8], nodes: &[u8], leaves: &[u8], z: S
     requires { ⌜ SoundRules z (now rules) ⌝ }
     ensures { λ r. ⌜ answerOf r ≡ treeAnswerOf z (now (states .entry)) (now (rules .entry)) [] (now (nodes .entry)) (now (leaves .entry)) ⌝ }
 {
-    let inputs = node::states_with(states, z, Flag::Input);
-    let outputs = node::states_with(states, z, Flag::Output);
+    let inputs = counts::flag_set(states, z.states, Flag::Input);
+    let outputs = counts::flag_set(states, z.states, Flag::Output);
     let facts = Facts::fresh(inputs, z.states);
     let end = descend(rules, nodes, leaves, z, outputs, Facts::DEPTH, facts, 0);
     let Walk::Next(j) = end else {

@@ -90,7 +90,7 @@ module _ (b : List ℕ) (h : Header) (sound : SoundShape b h) where
   same-reported c [] = refl
   same-reported c (x ∷ xs) = rw (same-reply c x, same-counts c x, same-reported (countsAfter P c x) xs)
 
-  -- So a claim about the calls on the protocol is one about those on the bytes.
+  -- A claim about the calls on the protocol is one about those on the bytes.
   on-bytes : (c : List ℕ) (Q : (List ℕ → Call → Reply) → (List Call → List ℕ) → (List Call → ℕ) → Type 0) → Q (reply P) (lastCounts P c) (reported P c) → Q (replyOf b) (lastOn b c) (reportedOn b c)
   on-bytes c Q = subst₃ Q (sym (fun-ext (λ d. fun-ext (same-reply d)))) (sym (fun-ext (same-last c))) (sym (fun-ext (same-reported c)))
 

@@ -8,7 +8,7 @@ use borrow.Author.Needs.{needs}
 use Rattle.theory.specs.Test.Laws.{not-both}
 use Rattle.theory.specs.Protocol.{enabled}
 use Rattle.format.specs.Format.{tableOf}
-use Rattle.counts.specs.Counts.Laws.{Best, best-none, best-skip, best-take, best-done}
+use Rattle.counts.specs.Counts.Laws.{Best, best-none, best-skip, best-take, best-lowest, best-done}
 use Rattle.counts.proofs.choose.Statement.{statement}
 use Rattle.counts.proofs.choose.Tie as tie
 
@@ -33,6 +33,12 @@ rule-layer-requires c κs = search needs
 enabled-requires : tie.Need-enabled-requires Inv-loop μ-loop
 enabled-requires c κs = search needs
 
+returns : tie.Need-returns Inv-loop μ-loop
+returns c =
+    let i = c .before .before .before .before .before .before .before .loop in
+    let l = c .before .before .before .before .rule-layer in
+    best-lowest _ _ (i .r) (i .best) (i .low) (i .inv) (search needs) (l .result) (l .ensures .is) (search needs) (search needs) (cc)
+
 add-r : tie.Need-add-r Inv-loop μ-loop
 add-r c = search needs
 
@@ -47,7 +53,7 @@ loop-again c =
     let i = c .before .before .before .before .loop in
     let l = c .before .rule-layer in
     elim (c .if2 .came) [
-      | inl w ↦ rw (w .3, w .4) (best-take P d (i .r) (i .best) (i .low) (i .inv) (omega arith) (l .result) (l .ensures .is) (w .0 .taken) (cc))
+      | inl w ↦ rw (w .4, w .5) (best-take P d (i .r) (i .best) (i .low) (i .inv) (omega arith) (l .result) (l .ensures .is) (w .0 .taken) (cc))
       | inr v ↦
           elim v [
             | inl w ↦
@@ -57,8 +63,8 @@ loop-again c =
           ]
     ]
 
-returns : tie.Need-returns Inv-loop μ-loop
-returns c = best-done _ _ _ _ _ (c .before .before .loop .inv) (search needs)
+returns-2 : tie.Need-returns-2 Inv-loop μ-loop
+returns-2 c = best-done _ _ _ _ _ (c .before .before .loop .inv) (search needs)
 
 pub choose-spec : {M : Type 1} → statement M
 choose-spec =
@@ -71,7 +77,8 @@ choose-spec =
     loop-holds
     rule-layer-requires
     enabled-requires
+    returns
     add-r
     loop-less
     loop-again
-    returns)
+    returns-2)

@@ -216,6 +216,10 @@ module _ (P : Protocol) (c : List ℕ) where
         ap (λ k. firstBelow (P .rules) (enabledIn P c k)) lowest-at
         ∙ first-is (P .rules) (enabledIn P c (P .layer b)) b (omega arith) (λ k l. not-in (P .layer b) k (λ e q. omega (arith, first k l e))) (λ _. on-in)
 
+  -- The first enabled rule of layer 0 is chosen.
+  pub best-lowest : (r best low : ℕ) → Best P c r best low → r < P .rules → (k : ℕ) → k ≡ P .layer r → k < low → k ≡ 0 → enabled P c r ≡ true → r ≡ chosen P c
+  best-lowest r best low h l k q d z e = sym (chosen-at r l e (omega arith) (λ j m t. omega arith) (λ j m t. omega (arith, h .least j m t)))
+
   pub best-done : (r best low : ℕ) → Best P c r best low → P .rules ≤ r → best ≡ chosen P c
   best-done r best low h end =
       let least : (k : ℕ) → k < P .rules → enabled P c k ≡ true → low ≤ P .layer k = λ k l. h .least k (omega arith) in

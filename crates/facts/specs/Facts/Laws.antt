@@ -216,7 +216,7 @@ pub fresh-words : (n u x w : ℕ) → w < 2 ^ 64 → member u ≡ fullOf n → m
 unfolding freshOf
 fresh-words n u x w h d e = rw (first-in w 2 h, none-in 1 3, none-in 4 12, e, d)
 
--- They are the fresh facts of a protocol with these inputs.
+-- Fresh facts by the inputs A are those of a protocol with these inputs.
 pub fresh-is : (P : Protocol) (A : ℕ → Bool) → P .states ≤ 64 → ((s : ℕ) → s < P .states → A s ≡ P .input s) → fresh P ≡ freshOf (P .states) A
 unfolding fresh freshOf
 fresh-is P A h same =

@@ -20,11 +20,11 @@ Inv-search rules z n s rule layer u j v₀ v = (v ≤ z .rules) × Clear (fittin
 abbrev μ-search : tie.MeasureT-search
 μ-search rules z n s rule layer u j v₀ v = z .rules - v
 
-abbrev Inv-lower : tie.InvT-lower
-Inv-lower rules z n s rule layer u₀ u = (u ≤ z .rules) × Clear (uncovered (ladderOf z rules []) s) u
+abbrev Inv-loop : tie.InvT-loop
+Inv-loop rules z n s rule layer u₀ u = (u ≤ z .rules) × Clear (uncovered (ladderOf z rules []) s) u
 
-abbrev μ-lower : tie.MeasureT-lower
-μ-lower rules z n s rule layer u₀ u = z .rules - u
+abbrev μ-loop : tie.MeasureT-loop
+μ-loop rules z n s rule layer u₀ u = z .rules - u
 
 abbrev Inv-test : tie.InvT-test
 Inv-test rules z n s₀ s = (s ≤ z .rules) × Clear (λ k. not (handoverAt (ladderOf z rules []) k)) s
@@ -32,41 +32,41 @@ Inv-test rules z n s₀ s = (s ≤ z .rules) × Clear (λ k. not (handoverAt (la
 abbrev μ-test : tie.MeasureT-test
 μ-test rules z n s₀ s = z .rules - s
 
-cast-n : tie.Need-cast-n Inv-search μ-search Inv-lower μ-lower Inv-test μ-test
+cast-n : tie.Need-cast-n Inv-search μ-search Inv-loop μ-loop Inv-test μ-test
 cast-n c = search needs
 
-test-holds : tie.Need-test-holds Inv-search μ-search Inv-lower μ-lower Inv-test μ-test
+test-holds : tie.Need-test-holds Inv-search μ-search Inv-loop μ-loop Inv-test μ-test
 test-holds c = search (scan, needs)
 
 read-rule-requires :
-    tie.Need-read-rule-requires Inv-search μ-search Inv-lower μ-lower Inv-test μ-test
+    tie.Need-read-rule-requires Inv-search μ-search Inv-loop μ-loop Inv-test μ-test
 read-rule-requires c κs = search needs
 
-lower-holds : tie.Need-lower-holds Inv-search μ-search Inv-lower μ-lower Inv-test μ-test
-lower-holds c = search (scan, needs)
+loop-holds : tie.Need-loop-holds Inv-search μ-search Inv-loop μ-loop Inv-test μ-test
+loop-holds c = search (scan, needs)
 
 read-rule-requires-2 :
-    tie.Need-read-rule-requires-2 Inv-search μ-search Inv-lower μ-lower Inv-test μ-test
+    tie.Need-read-rule-requires-2 Inv-search μ-search Inv-loop μ-loop Inv-test μ-test
 read-rule-requires-2 c κs = search needs
 
 pre-sequence-requires :
-    tie.Need-pre-sequence-requires Inv-search μ-search Inv-lower μ-lower Inv-test μ-test
+    tie.Need-pre-sequence-requires Inv-search μ-search Inv-loop μ-loop Inv-test μ-test
 pre-sequence-requires c κs = search needs
 
-search-holds : tie.Need-search-holds Inv-search μ-search Inv-lower μ-lower Inv-test μ-test
+search-holds : tie.Need-search-holds Inv-search μ-search Inv-loop μ-loop Inv-test μ-test
 search-holds c = search (scan, needs)
 
 rule-fits-requires :
-    tie.Need-rule-fits-requires Inv-search μ-search Inv-lower μ-lower Inv-test μ-test
+    tie.Need-rule-fits-requires Inv-search μ-search Inv-loop μ-loop Inv-test μ-test
 rule-fits-requires c κs = search needs
 
-add-v : tie.Need-add-v Inv-search μ-search Inv-lower μ-lower Inv-test μ-test
+add-v : tie.Need-add-v Inv-search μ-search Inv-loop μ-loop Inv-test μ-test
 add-v c = search needs
 
-search-less : tie.Need-search-less Inv-search μ-search Inv-lower μ-lower Inv-test μ-test
+search-less : tie.Need-search-less Inv-search μ-search Inv-loop μ-loop Inv-test μ-test
 search-less c = search needs
 
-search-again : tie.Need-search-again Inv-search μ-search Inv-lower μ-lower Inv-test μ-test
+search-again : tie.Need-search-again Inv-search μ-search Inv-loop μ-loop Inv-test μ-test
 search-again c =
     let at-u = c .before .before .before .before .before .before .before .before in
     let at-s = at-u .before .before .before .before in
@@ -74,46 +74,46 @@ search-again c =
     let fit = fits-turn (start .args .z) _ _ _ _ _ _ _ _ (at-s .read-rule .ensures) (at-u .read-rule2 .ensures) (c .before .before .before .before .before .pre-sequence .ensures) (c .before .rule-fits .ensures) in
     (omega arith, clear-more _ _ _ (c .before .before .before .before .search .inv .1) fit (c .if5 .left))
 
-add-u : tie.Need-add-u Inv-search μ-search Inv-lower μ-lower Inv-test μ-test
+add-u : tie.Need-add-u Inv-search μ-search Inv-loop μ-loop Inv-test μ-test
 add-u c = search needs
 
-lower-less : tie.Need-lower-less Inv-search μ-search Inv-lower μ-lower Inv-test μ-test
-lower-less c = search needs
+loop-less : tie.Need-loop-less Inv-search μ-search Inv-loop μ-loop Inv-test μ-test
+loop-less c = search needs
 
-lower-again : tie.Need-lower-again Inv-search μ-search Inv-lower μ-lower Inv-test μ-test
-lower-again c =
+loop-again : tie.Need-loop-again Inv-search μ-search Inv-loop μ-loop Inv-test μ-test
+loop-again c =
     let at-u = c .before .before in
     let at-s = at-u .before .before .before .before in
     let start = at-s .before .before .before .before .before .before in
     let P = ladderOf (start .args .z) (start .args .rules .now) [] in
     let s = at-s .before .before .before .test .s in
-    let u = at-u .before .before .before .lower .u in
+    let u = at-u .before .before .before .loop .u in
     let covered : uncovered P s u ≡ false =
     elim (c .if3 .came) [
       | inl w ↦ covered-by P s u (w .2 .v) (omega arith) (sym (fits-turn (start .args .z) _ _ _ _ _ _ _ _ (at-s .read-rule .ensures) (at-u .read-rule2 .ensures) (w .1 .ensures) (w .5 .ensures)) ∙ w .6 .taken)
       | inr w ↦ not-lower P s u (omega (arith, ap (λ (r : Rule). r .layer) (at-s .read-rule .ensures), ap (λ (r : Rule). r .layer) (at-u .read-rule2 .ensures)))
     ] in
-    (omega arith, clear-more _ _ _ (at-u .before .before .before .lower .inv .1) refl covered)
+    (omega arith, clear-more _ _ _ (at-u .before .before .before .loop .inv .1) refl covered)
 
-add-s : tie.Need-add-s Inv-search μ-search Inv-lower μ-lower Inv-test μ-test
+add-s : tie.Need-add-s Inv-search μ-search Inv-loop μ-loop Inv-test μ-test
 add-s c = search needs
 
-test-less : tie.Need-test-less Inv-search μ-search Inv-lower μ-lower Inv-test μ-test
+test-less : tie.Need-test-less Inv-search μ-search Inv-loop μ-loop Inv-test μ-test
 test-less c = search needs
 
-test-again : tie.Need-test-again Inv-search μ-search Inv-lower μ-lower Inv-test μ-test
+test-again : tie.Need-test-again Inv-search μ-search Inv-loop μ-loop Inv-test μ-test
 test-again c =
-    let at-lower = c .before .before in
-    let at-test = at-lower .before .before .before .before in
+    let at-loop = c .before .before in
+    let at-test = at-loop .before .before .before .before in
     let start = at-test .before .before .before in
     let P = ladderOf (start .args .z) (start .args .rules .now) [] in
-    let holds = covered-passes P (at-test .test .s) (λ k l. at-lower .lower .inv .1 k (omega arith)) in
+    let holds = covered-passes P (at-test .test .s) (λ k l. at-loop .loop .inv .1 k (omega arith)) in
     (omega arith, clear-more _ _ _ (at-test .test .inv .1) refl holds)
 
-returns : tie.Need-returns Inv-search μ-search Inv-lower μ-lower Inv-test μ-test
+returns : tie.Need-returns Inv-search μ-search Inv-loop μ-loop Inv-test μ-test
 returns c = search (scan, needs)
 
-returns-2 : tie.Need-returns-2 Inv-search μ-search Inv-lower μ-lower Inv-test μ-test
+returns-2 : tie.Need-returns-2 Inv-search μ-search Inv-loop μ-loop Inv-test μ-test
 returns-2 c =
     let at-search = c .before .before in
     let at-u = at-search .before .before .before .before in
@@ -121,7 +121,7 @@ returns-2 c =
     let start = at-s .before .before .before .before .before .before in
     let P = ladderOf (start .args .z) (start .args .rules .now) [] in
     let s = at-s .before .before .before .test .s in
-    let u = at-u .before .before .before .lower .u in
+    let u = at-u .before .before .before .loop .u in
     let lower : P .layer u < P .layer s = omega (arith, ap (λ (r : Rule). r .layer) (at-s .read-rule .ensures), ap (λ (r : Rule). r .layer) (at-u .read-rule2 .ensures)) in
     let none = covered-by-none P s u lower (λ k l. at-search .search .inv .1 k (omega arith)) in
     first-hit _ _ _ _ (omega arith) (at-s .before .before .before .test .inv .1) refl (uncovered-fails P s u (omega arith) none)
@@ -132,14 +132,14 @@ handover-fault-spec =
     (tie.spec
     Inv-search
     μ-search
-    Inv-lower
-    μ-lower
+    Inv-loop
+    μ-loop
     Inv-test
     μ-test
     cast-n
     test-holds
     read-rule-requires
-    lower-holds
+    loop-holds
     read-rule-requires-2
     pre-sequence-requires
     search-holds
@@ -148,8 +148,8 @@ handover-fault-spec =
     search-less
     search-again
     add-u
-    lower-less
-    lower-again
+    loop-less
+    loop-again
     add-s
     test-less
     test-again

@@ -31,12 +31,12 @@ module _ (z : Sizes) (states rules layers : List ℕ) where
   unfolding lowersAt
   lowersAt-sections = refl
 
-  -- Handover does not look at the weights,
+  -- Handover does not look at the weights.
   pub handoverAt-sections : _≡_ {A = ℕ → Bool} (handoverAt (protocolOf z states rules layers)) (handoverAt (ladderOf z rules []))
   unfolding handoverAt isLower fits
   handoverAt-sections = refl
 
-  -- and spreads do not look at the rules.
+  -- Spreads do not look at the rules.
   pub spread-sections : _≡_ {A = ℕ → ℕ} (spread (protocolOf z states rules layers)) (spread (ladderOf z [] layers))
   unfolding spread leastWeight
   spread-sections = refl

@@ -189,12 +189,12 @@ neither : (a b : Bool) → not a && not b ≡ not (a || b)
 neither true b = refl
 neither false b = refl
 
-excused-not : (a o b : Bool) → not (a || o) && not b ≡ not (a || (b || o))
-excused-not true o b = refl
-excused-not false true true = refl
-excused-not false true false = refl
-excused-not false false true = refl
-excused-not false false false = refl
+not-allowed : (a o b : Bool) → not (a || o) && not b ≡ not (a || (b || o))
+not-allowed true o b = refl
+not-allowed false true true = refl
+not-allowed false true false = refl
+not-allowed false false true = refl
+not-allowed false false false = refl
 
 module _ (z : Sizes) (leaves : List ℕ) (l : ℕ) (F : Facts) where
   start-found : (a k : ℕ) → k ≡ firstBelow (z .states) (faultOf z leaves l (Start a)) → member a ≡ F .absent 0
@@ -205,7 +205,7 @@ module _ (z : Sizes) (leaves : List ℕ) (l : ℕ) (F : Facts) where
   end-at : (e x a o : ℕ) → member x ≡ unionOf a o → member a ≡ F .absent (e + 1) → member o ≡ F .atMostOne (e + 1)
       → (s : ℕ) → faultOf z leaves l (End e x) s ≡ not (F .absent (e + 1) s || (leb 10000 (endWeight z leaves l e s) || F .atMostOne (e + 1) s))
   unfolding faultOf
-  end-at e x a o u ha ho s = rw (u, ha, ho, ltb-leb) (excused-not (F .absent (e + 1) s) (F .atMostOne (e + 1) s) (leb 10000 (endWeight z leaves l e s)))
+  end-at e x a o u ha ho s = rw (u, ha, ho, ltb-leb) (not-allowed (F .absent (e + 1) s) (F .atMostOne (e + 1) s) (leb 10000 (endWeight z leaves l e s)))
 
   end-found-1 : (x a o k : ℕ) → k ≡ firstBelow (z .states) (faultOf z leaves l (End 0 x)) → member x ≡ unionOf a o → member a ≡ F .absent 1 → member o ≡ F .atMostOne 1
       → not (ltb k (z .states)) ≡ endFits (tableOf z []) F 1 10000 (weightsOf z leaves l 1)

@@ -16,7 +16,7 @@ use Rattle.theory.specs.Machine.Laws.{adds-on, admitted-sized, reply-run}
 use Rattle.machine.specs.Calls.{Called}
 use Rattle.machine.specs.Calls.Laws.{chosen-rule, rest-chosen, size-most}
 
--- A run of that limit from c stands at d after k steps: what is still to run from d completes it.
+-- A run from c with this limit stands at d after k steps: what is still to run from d completes it.
 pub record Running (P : Protocol) (limit : ℕ) (c : List ℕ) (k : ℕ) (d : List ℕ) : Type 0 where
   pub within : k ≤ limit
   pub counts : after P c (runNumbers P limit c) ≡ after P d (runNumbers P (limit - k) d)

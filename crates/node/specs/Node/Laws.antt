@@ -6,12 +6,11 @@ use mathlib.Core.Logic.{by-cases}
 use Prim.Native.Nat.{ℕ, zero, suc, _+_, _^_, _≤_, _<_}
 use native.Mathlib.Decide.{decLt}
 use native.Mathlib.Omega.{arith}
-use lib.Arith.{lt-of-le-ne}
 use lib.Dec.{leb, ltb, eqb}
 use lib.ListN.{getD}
 use native.Mathlib.Nat.{lt-of-lt-of-le}
 use borrow.Author.Count.{below-none, below-more}
-use borrow.Author.Tests.{lt-ltb, le-ltb, ltb-true, ltb-false, leb-true, eqb-true, eqb-false, not-true, not-false}
+use borrow.Author.Tests.{lt-ltb, le-ltb, ltb-true, ltb-false, leb-true, not-true, not-false}
 use Rattle.theory.specs.Test.{member, imp}
 use Rattle.theory.specs.Test.Laws.{by-test, not-both, is-false, and-elim, imp-intro, imp-elim, or-left, or-right, or-none}
 use Rattle.theory.specs.Below.{allBelow}
@@ -21,14 +20,14 @@ use Rattle.theory.specs.Facts.{Facts, withAbsent, withPresent, withAtMostOne, w
 use Rattle.theory.specs.Leaf.{leafCloses, nonIncreasing, startFits, endFits, spare, surplus, shortfall}
 use Rattle.theory.specs.Tree.{Assumption, leaf, outputAbsent, contradiction, disabled, caseSplit, trap, siphon, bad, checked, takes, puts, touches, follows, isTrap, isSiphon, within, isSet, children, disagreement, isRun, ground, byKind, node, refusalNumber}
 use Rattle.theory.specs.Tree as tree
-use Rattle.bits.specs.Word.{inWords, singleOf, fullOf, unionOf, withoutOf, subsetOf}
-use Rattle.bits.specs.Word.Laws.{member-none, member-above, member-small, all-wider, subset-states}
+use Rattle.bits.specs.Word.{inWords, singleOf, fullOf, withoutOf, subsetOf}
+use Rattle.bits.specs.Word.Laws.{member-above, member-small, all-wider, subset-states}
 use Rattle.format.specs.Format.{ruleP, ruleQ, treeOf, weightsOf, protocolOf}
 use Rattle.format.specs.declared.Sizes.{Sizes}
 use Rattle.shape.specs.Sound.{Limits, SoundParts}
 use Rattle.facts.specs.Facts.{onlyIf}
 use Rattle.facts.specs.Facts.Laws.{only-party, only-state, no-party, unused-with, MarkedBelow, marked-more, marked-same}
-use Rattle.node.specs.Node.{among, assumedOf, nodeOf, tableOf, takesFrom, putsInto, keeps, isTrapOf, SoundRules, Turn, refuse, check, settled, turn, turnAt, leafFields, runFields, stateFields, ruleFields, setFields, disabledChildren, setChild}
+use Rattle.node.specs.Node.{among, assumedOf, nodeOf, nodeTable, takesFrom, putsInto, keeps, isTrapOf, SoundRules, Turn, refuse, check, settled, turn, turnAt, leafFields, runFields, stateFields, ruleFields, setFields, disabledChildren, setChild}
 use Rattle.node.specs.declared.Node.{Node}
 
 -- What the sound shape of a docket gives.
@@ -39,63 +38,6 @@ sound-rules z states rules layers l g = record {
   p-lt = λ r h. lt-of-lt-of-le (g .formed .p-lt r h) (l .states-most);
   q-lt = λ r h. lt-of-lt-of-le (g .formed .q-lt r h) (l .states-most);
 }
-
--- ---- The states that have a flag
-
--- The members of w are the states of A below s, and below 64.
-abbrev pub Gathered : (ℕ → Bool) → ℕ → ℕ → Type 0
-Gathered A s w = member w ≡ among s A
-
-below-next : (s j : ℕ) → ltb j (s + 1) ≡ ltb j s || eqb s j
-below-next s j =
-    by-test (eqb s j)
-    (λ e. let q = eqb-true s j e in rw (e, lt-ltb j (s + 1) (omega arith), le-ltb j s (omega arith)))
-    (λ e.
-    rw e
-    (by-test (ltb j s)
-    (λ l. rw (l, lt-ltb j (s + 1) (omega (arith, ltb-true j s l))))
-    (λ l. let n : s < j = lt-of-le-ne (ltb-false j s l) (eqb-false s j e) in rw (l, le-ltb j (s + 1) (omega arith)))))
-
-next-in : (h l e a : Bool) → (e ≡ true → a ≡ true) → ((h && l) && a) || (h && e) ≡ (h && (l || e)) && a
-next-in true true true a f = rw (f refl)
-next-in true true false true f = refl
-next-in true true false false f = refl
-next-in true false true a f = rw (f refl)
-next-in true false false a f = refl
-next-in false l e a f = refl
-
-next-out : (h l e a : Bool) → (e ≡ true → a ≡ false) → (h && l) && a ≡ (h && (l || e)) && a
-next-out true true e a f = refl
-next-out true false true a f = rw (f refl)
-next-out true false false a f = refl
-next-out false l e a f = refl
-
-module _ (A : ℕ → Bool) where
-  pub gathered-none : Gathered A 0 0
-  unfolding among
-  gathered-none = fun-ext (λ j. member-none j ∙ sym (rw (le-ltb j 0 (omega arith), and-false (ltb j 64))))
-
-  module _ (s w : ℕ) (t : Bool) (g : Gathered A s w) (e : t ≡ A s) where
-    pub gathered-more : (u v : ℕ) → t ≡ true → member u ≡ singleOf s → member v ≡ unionOf w u → Gathered A (s + 1) v
-    unfolding among
-    gathered-more u v h one joined =
-        joined
-        ∙ fun-ext
-        (λ j.
-        rw (g, one, below-next s j)
-        (next-in (ltb j 64) (ltb j s) (eqb s j) (A j) (λ q. ap A (sym (eqb-true s j q)) ∙ sym e ∙ h)))
-
-    pub gathered-same : t ≡ false → Gathered A (s + 1) w
-    unfolding among
-    gathered-same h =
-        g
-        ∙ fun-ext
-        (λ j.
-        rw (below-next s j)
-        (next-out (ltb j 64) (ltb j s) (eqb s j) (A j) (λ q. ap A (sym (eqb-true s j q)) ∙ sym e ∙ h)))
-
-  pub gathered-end : (n s w : ℕ) → s ≤ n → n ≤ s → Gathered A s w → Gathered A n w
-  gathered-end n s w l m g = let e : s ≡ n = omega arith in rw e at g
 
 -- ---- Fields, then ground
 
@@ -212,9 +154,9 @@ touched-none F k A h = unused-with F F k _ refl refl refl (no-party (F .unused) 
 
 module _ (z : Sizes) (rules : List ℕ) (F G : Facts) (k : ℕ) (A : ℕ → Bool) (i : ℕ) where
   pub touched-end : k < 3 → i ≤ z .rules → z .rules ≤ i → MarkedBelow F k (meets rules A) i G
-      → G ≡ withUnused F k (onlyIf (ltb k 3) (touches (tableOf z rules 0) A))
+      → G ≡ withUnused F k (onlyIf (ltb k 3) (touches (nodeTable z rules 0) A))
   unfolding touches takes puts
-  touched-end h l m g = let e : i ≡ z .rules = omega arith in rw (only-party k (touches (tableOf z rules 0) A) h) (rw e at g)
+  touched-end h l m g = let e : i ≡ z .rules = omega arith in rw (only-party k (touches (nodeTable z rules 0) A) h) (rw e at g)
 
   -- A turn with the tests t and u of rule i.
   module _ (t u : Bool) (g : MarkedBelow F k (meets rules A) i G) (e : t ≡ takesFrom rules A i) (d : u ≡ putsInto rules A i) where
@@ -270,7 +212,7 @@ set-lt z n e = ltb-true _ _ (and-elim (ltb 0 (n .set)) (ltb (n .set) (2 ^ z .sta
 module _ (z : Sizes) (n : Node) (F : Facts) (x : Turn) where
   -- Kind 0: the leaf rule does not use the outputs.
   pub leaf-turn : (rules leaves : List ℕ) (b t : Bool) → t ≡ leafCloses (protocolOf z [] rules []) F (weightsOf z leaves (n .argument))
-      → x ≡ settled b t [] → x ≡ settled b (leafCloses (tableOf z rules 0) F (weightsOf z leaves (n .argument))) []
+      → x ≡ settled b t [] → x ≡ settled b (leafCloses (nodeTable z rules 0) F (weightsOf z leaves (n .argument))) []
   unfolding leafCloses nonIncreasing startFits endFits spare surplus shortfall
   leaf-turn rules leaves b t e h = h ∙ ap (λ (g : Bool). settled b g []) e
 
@@ -325,10 +267,10 @@ module _ (z : Sizes) (n : Node) (F : Facts) (x : Turn) where
   -- Kinds 5 and 6.
   pub set-turn : (rules : List ℕ) (to u a : ℕ) (f : ℕ → Bool) (t o k j : Bool) (G H : Facts) → SoundRules z rules → to ≤ n .party → n .set < 2 ^ 64
       → x ≡ settled (leb 1 (n .party) && leb (n .party) 2 && eqb (n .argument) 0 && (ltb 0 (n .set) && t)) (o && j) (H ∷ []) → j ≡ k
-      → H ≡ withUnused G (n .party) (onlyIf (ltb (n .party) 3) (touches (tableOf z rules 0) (member (n .set))))
+      → H ≡ withUnused G (n .party) (onlyIf (ltb (n .party) 3) (touches (nodeTable z rules 0) (member (n .set))))
       → G ≡ withAbsent F to (onlyIf (ltb to 3) (member (n .set)))
       → o ≡ subsetOf (n .set) a → member a ≡ f → t ≡ subsetOf (n .set) u → member u ≡ fullOf (z .states)
-      → x ≡ settled (setFields z n) (within (tableOf z rules 0) (member (n .set)) f && k)
+      → x ≡ settled (setFields z n) (within (nodeTable z rules 0) (member (n .set)) f && k)
       (setChild z rules F to n ∷ [])
   unfolding within
   set-turn rules to u a f t o k j G H s l w y i m g h c d e =
@@ -337,7 +279,7 @@ module _ (z : Sizes) (n : Node) (F : Facts) (x : Turn) where
       let r = run-party n _ _ b in
       let same : o ≡ allBelow (z .states) (λ i. imp (member (n .set) i) (f i)) =
       h ∙ rw c (subset-states 64 (z .states) (n .set) f (s .states-most) (set-lt z n b)) in
-      (rw (same, i), rw (m, g, only-party to (member (n .set)) (omega arith), only-party (n .party) (touches (tableOf z rules 0) (member (n .set))) r)))
+      (rw (same, i), rw (m, g, only-party to (member (n .set)) (omega arith), only-party (n .party) (touches (nodeTable z rules 0) (member (n .set))) r)))
       (rw (set-test (z .states) (n .set) w u t e d) at y)
 
 -- ---- Node i
@@ -351,7 +293,7 @@ turn-checked P H F false m e = refl
 
 module _ (z : Sizes) (rules nodes leaves : List ℕ) (outputs : ℕ) (F : Facts) (i : ℕ) (n : Node) (e : n ≡ nodeOf nodes i) (x : Turn) where
   abbrev P : Protocol
-  P = tableOf z rules outputs
+  P = nodeTable z rules outputs
 
   abbrev H : Assumption
   H = disagreement P (weightsOf z leaves)
@@ -364,12 +306,12 @@ module _ (z : Sizes) (rules nodes leaves : List ℕ) (outputs : ℕ) (F : Facts)
   unfolding turnAt node
   by-kind k h d = d ∙ ap (λ (j : ℕ). turn P H F (of-kind n j)) (sym h) ∙ ap (λ (m : Node). turn P H F (of-kind m (m .kind))) e
 
-  pub kind-leaf : n .kind ≡ 0 → x ≡ settled (leafFields z n) (leafCloses (tableOf z rules 0) F (weightsOf z leaves (n .argument))) []
+  pub kind-leaf : n .kind ≡ 0 → x ≡ settled (leafFields z n) (leafCloses (nodeTable z rules 0) F (weightsOf z leaves (n .argument))) []
       → x ≡ turnAt z rules nodes leaves outputs F i
   unfolding byKind ground children disagreement refusalNumber leafCloses nonIncreasing startFits endFits spare surplus shortfall
   kind-leaf k d = by-kind 0 k (d ∙ turn-checked P H F _ (leaf (n .argument)) refl)
 
-  pub kind-output : n .kind ≡ 1 → x ≡ settled (runFields n) (within (tableOf z [] outputs) (assumedOf outputs (n .party)) (F .absent (n .party))) []
+  pub kind-output : n .kind ≡ 1 → x ≡ settled (runFields n) (within (nodeTable z [] outputs) (assumedOf outputs (n .party)) (F .absent (n .party))) []
       → x ≡ turnAt z rules nodes leaves outputs F i
   unfolding byKind isRun ground children disagreement refusalNumber within assumedOf
   kind-output k d = by-kind 1 k (d ∙ turn-checked P H F _ (outputAbsent (n .party)) refl)
@@ -390,13 +332,13 @@ module _ (z : Sizes) (rules nodes leaves : List ℕ) (outputs : ℕ) (F : Facts)
   kind-split k d = by-kind 4 k (d ∙ turn-checked P H F _ (caseSplit (n .party) (n .argument)) refl)
 
   pub kind-trap : n .kind ≡ 5
-      → x ≡ settled (setFields z n) (within (tableOf z rules 0) (member (n .set)) (F .absent (n .party)) && isTrapOf false z rules (F .unused (n .party)) (member (n .set))) (setChild z rules F 0 n ∷ [])
+      → x ≡ settled (setFields z n) (within (nodeTable z rules 0) (member (n .set)) (F .absent (n .party)) && isTrapOf false z rules (F .unused (n .party)) (member (n .set))) (setChild z rules F 0 n ∷ [])
       → x ≡ turnAt z rules nodes leaves outputs F i
   unfolding byKind isRun isSet ground children disagreement refusalNumber within isTrapOf keeps isTrap follows touches takes puts
   kind-trap k d = by-kind 5 k (d ∙ turn-checked P H F _ (trap (n .party) (n .set)) refl)
 
   pub kind-siphon : n .kind ≡ 6
-      → x ≡ settled (setFields z n) (within (tableOf z rules 0) (member (n .set)) (F .absent 0) && isTrapOf true z rules (F .unused (n .party)) (member (n .set))) (setChild z rules F (n .party) n ∷ [])
+      → x ≡ settled (setFields z n) (within (nodeTable z rules 0) (member (n .set)) (F .absent 0) && isTrapOf true z rules (F .unused (n .party)) (member (n .set))) (setChild z rules F (n .party) n ∷ [])
       → x ≡ turnAt z rules nodes leaves outputs F i
   unfolding byKind isRun isSet ground children disagreement refusalNumber within isTrapOf keeps isSiphon follows touches takes puts
   kind-siphon k d = by-kind 6 k (d ∙ turn-checked P H F _ (siphon (n .party) (n .set)) refl)

@@ -89,11 +89,11 @@ majority layers ladder weights = record {
 abbrev pub vote : Protocol
 vote = majority 2 (0 ∷ 0 ∷ 1 ∷ 1 ∷ []) (rows ((1 ∷ 1 ∷ 0 ∷ 1 ∷ []) ∷ (0 ∷ 0 ∷ 1 ∷ 0 ∷ []) ∷ []))
 
--- The same ladder with other weights: the spreads are 2 and 3, the least weights 3 and 1.
+-- Majority with the layers of document 01 and other weights: the spreads are 2 and 3, the least weights 3 and 1.
 abbrev pub steep : Protocol
 steep = majority 2 (0 ∷ 0 ∷ 1 ∷ 1 ∷ []) (rows ((5 ∷ 5 ∷ 3 ∷ 5 ∷ []) ∷ (1 ∷ 1 ∷ 4 ∷ 1 ∷ []) ∷ []))
 
--- The two layers exchanged.
+-- Majority with the two layers exchanged.
 abbrev pub exchanged : Protocol
 exchanged = majority 2 (1 ∷ 1 ∷ 0 ∷ 0 ∷ []) (rows ((0 ∷ 0 ∷ 1 ∷ 0 ∷ []) ∷ (1 ∷ 1 ∷ 0 ∷ 1 ∷ []) ∷ []))
 

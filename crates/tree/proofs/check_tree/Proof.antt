@@ -4,11 +4,11 @@ use borrow.Author.Needs.{needs}
 use Rattle.tree.proofs.check_tree.Statement.{statement}
 use Rattle.tree.proofs.check_tree.Tie as tie
 
-states-with-requires : tie.Need-states-with-requires
-states-with-requires c κs = search needs
+flag-set-requires : tie.Need-flag-set-requires
+flag-set-requires c κs = search needs
 
-states-with-requires-2 : tie.Need-states-with-requires-2
-states-with-requires-2 c κs = search needs
+flag-set-requires-2 : tie.Need-flag-set-requires-2
+flag-set-requires-2 c κs = search needs
 
 fresh-requires : tie.Need-fresh-requires
 fresh-requires c κs = search needs
@@ -38,8 +38,8 @@ pub check-tree-spec : {M : Type 1} → statement M
 check-tree-spec =
     tie.close
     (tie.spec
-    states-with-requires
-    states-with-requires-2
+    flag-set-requires
+    flag-set-requires-2
     fresh-requires
     descend-requires
     enum-known-end

@@ -20,8 +20,9 @@ use Rattle.format.specs.Format.{ruleP, ruleQ, ruleP′, ruleQ′, ruleLayer, la
 use Rattle.format.specs.declared.Sizes.{Sizes}
 use Rattle.facts.specs.Facts.{factsOf, freshOf}
 use Rattle.facts.specs.Facts.Laws.{fresh-is}
-use Rattle.node.specs.Node.{flagOf, among, tableOf, Turn, refuse, goOn, check, turn, turnAt, turnOf, turnBy}
-use Rattle.node.specs.declared.Flag.the-variants.{Output, Input}
+use Rattle.counts.specs.Counts.{statesThat, hasFlag}
+use Rattle.counts.specs.declared.Flag.the-variants.{Output, Input}
+use Rattle.node.specs.Node.{nodeTable, Turn, refuse, goOn, check, turn, turnAt, turnOf, turnBy}
 use Rattle.node.specs.declared.Outcome.{Outcome}
 use Rattle.node.specs.declared.Outcome.the-variants.{Refused as Failed, Closed, Child, Children}
 use Rattle.node.specs.declared.Step.{Step}
@@ -88,7 +89,7 @@ module _ (z : Sizes) (rules nodes leaves : List ℕ) (outputs : ℕ) where
     stepped = go d h
       where
         P : Protocol
-        P = tableOf z rules outputs
+        P = nodeTable z rules outputs
 
         H : Assumption
         H = disagreement P (weightsOf z leaves)
@@ -233,7 +234,7 @@ unfolding treeAnswer finish
 answer-is R H U (next j) e = by-test (eqb j (U .nodes)) (λ t. rw (e, treeAnswer, t, finish)) (λ t. rw (e, treeAnswer, t, finish))
 answer-is R H U (refused n j) e = rw (e, treeAnswer)
 
--- It is the same with all layers.
+-- The answer of the whole tree is the same with every section of layers.
 pub layers-free : (z : Sizes) (states rules layers nodes leaves : List ℕ) → treeAnswerOf z states rules [] nodes leaves ≡ treeAnswerOf z states rules layers nodes leaves
 unfolding treeAnswerOf fresh
 layers-free z states rules layers nodes leaves = answer-is P H T _ refl ∙ ap (finish (z .nodes)) walks ∙ sym (answer-is Q K T _ refl)
@@ -254,21 +255,21 @@ layers-free z states rules layers nodes leaves = answer-is P H T _ refl ∙ ap (
     T = treeOf z nodes
 
     i : ℕ → Bool
-    i = flagOf states Input
+    i = hasFlag states Input
 
     walks : treeAt P H T 40 (fresh P) 0 ≡ treeAt Q K T 40 (fresh Q) 0
     walks =
         ap (λ (f : Facts → ℕ → Answer). f (fresh P) 0)
-        (walk-same z rules nodes leaves (flagOf states Output) (flagOf states Output) i i (layerWeight (z .states) []) (layerWeight (z .states) layers) (λ s m. refl) 40)
+        (walk-same z rules nodes leaves (hasFlag states Output) (hasFlag states Output) i i (layerWeight (z .states) []) (layerWeight (z .states) layers) (λ s m. refl) 40)
 
 -- A word that has the states of A has a state where A has it.
-among-at : (n w : ℕ) (A : ℕ → Bool) → n ≤ 64 → member w ≡ among n A → (s : ℕ) → s < n → member w s ≡ A s
-unfolding among
-among-at n w A h e s l = rw (e, lt-ltb s 64 (omega arith), lt-ltb s n l)
+states-at : (n w : ℕ) (A : ℕ → Bool) → n ≤ 64 → member w ≡ statesThat A n → (s : ℕ) → s < n → member w s ≡ A s
+unfolding statesThat
+states-at n w A h e s l = rw (e, lt-ltb s 64 (omega arith), lt-ltb s n l)
 
 -- The words of outputs and inputs are x and u, the fresh facts are F, and the walk comes to w.
 module _ (z : Sizes) (states rules nodes leaves : List ℕ) (x u : ℕ) (F : Facts) (w : Walk) (few : z .states ≤ 64)
-    (outputs : member x ≡ among (z .states) (flagOf states Output)) (inputs : member u ≡ among (z .states) (flagOf states Input))
+    (outputs : member x ≡ statesThat (hasFlag states Output) (z .states)) (inputs : member u ≡ statesThat (hasFlag states Input) (z .states))
     (facts : F ≡ freshOf (z .states) (member u)) (walked : answerOf w ≡ walkOf z rules nodes leaves x 40 F 0) where
   abbrev all : Answer
   all = treeAnswerOf z states rules [] nodes leaves
@@ -286,10 +287,10 @@ module _ (z : Sizes) (states rules nodes leaves : List ℕ) (x u : ℕ) (F : Fac
       walks : walkOf z rules nodes leaves x 40 F 0 ≡ treeAt R H (treeOf z nodes) 40 (fresh R) 0
       walks =
           ap (λ (f : Facts → ℕ → Answer). f F 0)
-          (walk-same z rules nodes leaves (member x) (flagOf states Output) (λ _. false) (flagOf states Input) (λ _ _. 0) (layerWeight (z .states) [])
-          (among-at (z .states) x (flagOf states Output) few outputs) 40)
+          (walk-same z rules nodes leaves (member x) (hasFlag states Output) (λ _. false) (hasFlag states Input) (λ _ _. 0) (layerWeight (z .states) [])
+          (states-at (z .states) x (hasFlag states Output) few outputs) 40)
           ∙ ap (λ (G : Facts). treeAt R H (treeOf z nodes) 40 G 0)
-          (facts ∙ sym (fresh-is R (member u) few (among-at (z .states) u (flagOf states Input) few inputs)))
+          (facts ∙ sym (fresh-is R (member u) few (states-at (z .states) u (hasFlag states Input) few inputs)))
 
   pub answer-refused : (n j : ℕ) → w ≡ Refused n j → answerOf w ≡ all
   unfolding finish

@@ -2,16 +2,21 @@
  * Checks dockets and runs their tables on counts of workers. Link with the static library of crate capi:
  *
  *     rt staticlib capi          (writes target/staticlib/libcapi.a)
- *     cc reader.c target/staticlib/libcapi.a          (x86-64)
+ *     cc -Iinclude reader.c target/staticlib/libcapi.a          (x86-64)
+ *
+ * Call docket_check first, and use the table only where it returns 0. The other functions make only tests 1 to 8, so
+ * they work on a docket that docket_check refuses too, and such a table may never come to rest. They make these tests
+ * in every call: to make many meetings, use docket_run rather than docket_step again and again.
  *
  * A docket is a pointer to its bytes and their number; any bytes may be given. Counts are one 32-bit number for each
- * state of the docket, in order, and their number. No pointer is null, and no two of them overlap. The library keeps
- * nothing between calls, allocates nothing and writes only where it says here.
+ * state of the docket, in order, and their number. No pointer is null, also where a length is 0, and no two of them
+ * overlap. The library keeps nothing between calls, allocates nothing and writes only where it says here.
  *
- * Each function returns 0 where it did its work, else a refusal with a number and a place. docket_check returns the
- * number times 65,536 plus the place; the others, whose place can be any 32-bit rule number, the number times 2 to the
- * power 32 plus the place. A refused call leaves the counts and the values behind the other pointers as they were.
- * Those values are read, so set them before the call.
+ * Each function returns 0 where it did its work, else a refusal with a number and a place: the first number in the order
+ * of the table that fits, and the lowest place that fits it. docket_check returns the number times 65,536 plus the
+ * place; the others, whose place can be any 32-bit rule number, the number times 2 to the power 32 plus the place. So
+ * each has its own pair of functions below that take a refusal apart. A refused call leaves the counts and the values
+ * behind the other pointers as they were. Those values are read, so set them before the call.
  *
  *   number  place                 when
  *   1       0                     file under 24 bytes, or length unlike the header's
@@ -57,7 +62,7 @@ uint64_t docket_can_act(const uint8_t *docket, size_t docket_len, const uint32_t
 uint64_t docket_is_standstill(const uint8_t *docket, size_t docket_len, const uint32_t *counts, size_t counts_len,
                               uint64_t *answer);
 
-/* *answer is 0 or 1 where all occupied states have that verdict, and 2 where it is mixed. */
+/* *answer is 0 or 1 where all occupied states have that verdict, and 2 where it is mixed; at rest or not. */
 uint64_t docket_verdict(const uint8_t *docket, size_t docket_len, const uint32_t *counts, size_t counts_len,
                         uint64_t *answer);
 
@@ -68,6 +73,9 @@ uint64_t docket_step(const uint8_t *docket, size_t docket_len, uint32_t *counts,
    are made. *steps is how many were made, *rests is 1 where nothing can act any more, else 0. */
 uint64_t docket_run(const uint8_t *docket, size_t docket_len, uint32_t *counts, size_t counts_len, uint32_t limit,
                     uint64_t *steps, uint64_t *rests);
+
+/* The number of states of an accepted docket: how many counts the other functions want. */
+static inline size_t docket_states(const uint8_t *docket) { return docket[2] + 256u * docket[3]; }
 
 /* The number and the place of a refusal of docket_check. */
 static inline uint32_t docket_check_number(uint64_t code) { return (uint32_t)(code / 65536); }

@@ -1,0 +1,127 @@
+//! Tests 1 to 8: the header and the plain fields of the sections.
+
+use super::{refuse, Refusal};
+use std::ops::RangeInclusive;
+
+/// p, q, p', q', layer.
+pub type Rule = [u8; 5];
+
+const COUNTS: [RangeInclusive<usize>; 5] = [2..=64, 0..=256, 0..=16, 1..=2048, 0..=128];
+const WEIGHT_LIMIT: u32 = 1_000_000;
+
+/// The sections of a file that passed tests 1 to 8, read in place.
+pub struct Docket<'a> {
+    pub states: &'a [u8],
+    pub rules: &'a [Rule],
+    pub layers: usize,
+    pub weights: &'a [[u8; 4]],
+    pub nodes: &'a [[u8; 12]],
+    pub leaf_weights: &'a [[u8; 2]],
+}
+
+impl<'a> Docket<'a> {
+    pub fn read(file: &'a [u8]) -> Result<Self, Refusal> {
+        let docket = Self::sections(file)?;
+        docket.state_test()?;
+        let used = docket.rule_tests()?;
+        docket.layer_test(used)?;
+        Ok(docket)
+    }
+
+    /// Tests 1 to 4.
+    fn sections(file: &'a [u8]) -> Result<Self, Refusal> {
+        let Some((header, body)) = file.split_first_chunk::<24>() else {
+            return refuse(1, 0);
+        };
+        let field = |i: usize| usize::from(u16::from_le_bytes([header[2 * i], header[2 * i + 1]]));
+        if field(11) != file.len() {
+            return refuse(1, 0);
+        }
+        if field(0) != 1 {
+            return refuse(2, 0);
+        }
+        let [s, r, l, n, k] = [field(1), field(2), field(3), field(4), field(5)];
+        for (place, limits) in COUNTS.iter().enumerate() {
+            if !limits.contains(&field(place + 1)) || (place == 2 && (l == 0) != (r == 0)) {
+                return refuse(3, place);
+            }
+        }
+        let lengths = [s, 5 * r, 4 * s * l, 12 * n, 4 * s * k];
+        let mut end = 24;
+        for place in 0..=5 {
+            if field(place + 6) != end {
+                return refuse(4, place);
+            }
+            end += lengths.get(place).unwrap_or(&0);
+        }
+        let (states, body) = body.split_at(lengths[0]);
+        let (rules, body) = body.split_at(lengths[1]);
+        let (weights, body) = body.split_at(lengths[2]);
+        let (nodes, leaves) = body.split_at(lengths[3]);
+        Ok(Docket {
+            states,
+            rules: rules.as_chunks().0,
+            layers: l,
+            weights: weights.as_chunks().0,
+            nodes: nodes.as_chunks().0,
+            leaf_weights: leaves.as_chunks().0,
+        })
+    }
+
+    /// Test 5.
+    fn state_test(&self) -> Result<(), Refusal> {
+        let bits = self.states.iter().fold(0, |bits, state| bits | state);
+        if bits > 3 {
+            return refuse(5, self.states.iter().take_while(|&&state| state <= 3).count());
+        }
+        if bits & 2 == 0 {
+            return refuse(5, self.states.len());
+        }
+        Ok(())
+    }
+
+    /// Tests 6 and 7. The result has bit i set if a rule has layer i.
+    fn rule_tests(&self) -> Result<u32, Refusal> {
+        let (states, layers) = (self.states.len() as u8, self.layers as u8);
+        let mut seen = [0u64; 64];
+        let mut repeated = None;
+        let mut used = 0;
+        for (place, &[p, q, a, b, layer]) in self.rules.iter().enumerate() {
+            let pairs = (p <= q) & (q < states) & (a <= b) & (b < states);
+            if !(pairs & ((p, q) != (a, b)) & (layer < layers)) {
+                return refuse(6, place);
+            }
+            let row = &mut seen[usize::from(p & 63)];
+            let bit = 1 << (q & 63);
+            if *row & bit != 0 {
+                repeated = repeated.or(Some(place));
+            }
+            *row |= bit;
+            used |= 1 << (layer & 31);
+        }
+        repeated.map_or(Ok(used), |place| refuse(7, place))
+    }
+
+    /// Test 8.
+    fn layer_test(&self, used: u32) -> Result<(), Refusal> {
+        let above = |weight: &[u8; 4]| u32::from_le_bytes(*weight) > WEIGHT_LIMIT;
+        let too_large = self.weights.iter().fold(false, |found, weight| found | above(weight));
+        let unused = used.trailing_ones() as usize;
+        let heavy = match too_large {
+            true => self.weights.iter().take_while(|weight| !above(weight)).count() / self.states.len(),
+            false => self.layers,
+        };
+        match unused.min(heavy) {
+            place if place < self.layers => refuse(8, place),
+            _ => Ok(()),
+        }
+    }
+
+    /// The states with that bit in their record.
+    pub fn states_with(&self, bit: u8) -> u64 {
+        self.states
+            .iter()
+            .rev()
+            .fold(0, |set, state| set << 1 | u64::from(state & bit != 0))
+    }
+}

@@ -1,0 +1,69 @@
+//! The machine calls.
+
+use super::docket::{Docket, Rule};
+use super::{refuse, Refusal};
+
+/// Tests 20 and 21.
+pub fn size_test(docket: &Docket, counts: &[u32]) -> Result<(), Refusal> {
+    if counts.len() != docket.states.len() {
+        return refuse(20, 0);
+    }
+    let size: u64 = counts.iter().map(|&count| u64::from(count)).sum();
+    if (2..=1_000_000).contains(&size) {
+        Ok(())
+    } else {
+        refuse(21, 0)
+    }
+}
+
+fn enabled(&[p, q, ..]: &Rule, counts: &[u32]) -> bool {
+    counts[usize::from(p)] > u32::from(p == q) && counts[usize::from(q)] > 0
+}
+
+fn fire(&[p, q, a, b, _]: &Rule, counts: &mut [u32]) {
+    counts[usize::from(p)] -= 1;
+    counts[usize::from(q)] -= 1;
+    counts[usize::from(a)] += 1;
+    counts[usize::from(b)] += 1;
+}
+
+/// Tests 23 and 24, then the meeting.
+pub fn step(docket: &Docket, counts: &mut [u32], rule: u32) -> Result<(), Refusal> {
+    let Some(found) = docket.rules.get(rule as usize) else {
+        return refuse(23, rule as usize);
+    };
+    if !enabled(found, counts) {
+        return refuse(24, rule as usize);
+    }
+    fire(found, counts);
+    Ok(())
+}
+
+/// The lowest enabled rule of the lowest layer that has one, by one pass that stops at layer 0.
+fn choose<'a>(docket: &Docket<'a>, counts: &[u32]) -> Option<&'a Rule> {
+    let mut best: Option<&Rule> = None;
+    let mut low = u8::MAX;
+    for rule in docket.rules {
+        if rule[4] < low && enabled(rule, counts) {
+            best = Some(rule);
+            low = rule[4];
+            if low == 0 {
+                break;
+            }
+        }
+    }
+    best
+}
+
+/// The steps made, and whether the counts rest.
+pub fn run(docket: &Docket, counts: &mut [u32], limit: u32) -> (u64, bool) {
+    let mut steps = 0;
+    let mut chosen = choose(docket, counts);
+    while steps < limit {
+        let Some(rule) = chosen else { break };
+        fire(rule, counts);
+        steps += 1;
+        chosen = choose(docket, counts);
+    }
+    (u64::from(steps), chosen.is_none())
+}

@@ -1,0 +1,64 @@
+//! The check and the machine by the same methods as the proved implementation, written in Rust with the same care for
+//! speed: the file is read in place, sets of states and of rules are words of 64 bits, facts are a plain struct that is
+//! copied to each child, every search stops at its first find, and nothing is allocated.
+
+mod docket;
+mod ladder;
+mod machine;
+mod tree;
+
+use docket::Docket;
+
+/// Number and place of a refusal.
+#[derive(Clone, Copy, Debug, PartialEq, Eq)]
+pub struct Refusal {
+    pub number: u32,
+    pub place: u32,
+}
+
+fn refuse<T>(number: u32, place: usize) -> Result<T, Refusal> {
+    Err(Refusal {
+        number,
+        place: place as u32,
+    })
+}
+
+/// Tests 1 to 13, and the figures W and M as the proved check computes them too.
+fn check(docket: &[u8]) -> Result<(u64, u32), Refusal> {
+    let docket = Docket::read(docket)?;
+    ladder::lowering(&docket)?;
+    ladder::handover(&docket)?;
+    tree::leaf_limits(&docket)?;
+    tree::check(&docket)?;
+    Ok((ladder::spread_sum(&docket), tree::widest(&docket)))
+}
+
+/// What `docket_check` returns.
+pub fn check_code(docket: &[u8]) -> u64 {
+    match check(docket) {
+        Ok(figures) => {
+            std::hint::black_box(figures);
+            0
+        }
+        Err(refusal) => u64::from(refusal.number) * 65_536 + u64::from(refusal.place),
+    }
+}
+
+/// What `docket_step` returns.
+pub fn step_code(docket: &[u8], counts: &mut [u32], rule: u32) -> u64 {
+    let made = Docket::read(docket).and_then(|docket| {
+        machine::size_test(&docket, counts)?;
+        machine::step(&docket, counts, rule)
+    });
+    made.map_or_else(
+        |refusal| (u64::from(refusal.number) << 32) + u64::from(refusal.place),
+        |()| 0,
+    )
+}
+
+/// The steps made, and whether the counts rest.
+pub fn run(docket: &[u8], counts: &mut [u32], limit: u32) -> Result<(u64, bool), Refusal> {
+    let docket = Docket::read(docket)?;
+    machine::size_test(&docket, counts)?;
+    Ok(machine::run(&docket, counts, limit))
+}

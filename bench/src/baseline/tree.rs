@@ -1,0 +1,216 @@
+//! Tests 11 to 13: leaf weights and the tree.
+
+use super::docket::{Docket, Rule};
+use super::{refuse, Refusal};
+
+const DEPTH: usize = 40;
+
+/// Test 11.
+pub fn leaf_limits(docket: &Docket) -> Result<(), Refusal> {
+    let outside = |weight: &[u8; 2]| !(-10_000..=10_000).contains(&i16::from_le_bytes(*weight));
+    match docket.leaf_weights.iter().position(outside) {
+        Some(at) => refuse(11, at / (2 * docket.states.len())),
+        None => Ok(()),
+    }
+}
+
+/// How many states the widest set of the tree names.
+pub fn widest(docket: &Docket) -> u32 {
+    docket
+        .nodes
+        .iter()
+        .map(|record| Node::read(record).set.count_ones())
+        .max()
+        .unwrap_or(0)
+}
+
+#[derive(Clone, Copy, Default)]
+struct Facts {
+    absent: [u64; 3],
+    present: [u64; 3],
+    at_most_one: [u64; 3],
+    unused: [[u64; 4]; 3],
+}
+
+impl Facts {
+    fn is_unused(&self, run: usize, rule: usize) -> bool {
+        self.unused[run][rule / 64] >> (rule % 64) & 1 == 1
+    }
+}
+
+struct Node {
+    kind: u8,
+    party: usize,
+    argument: usize,
+    set: u64,
+}
+
+impl Node {
+    fn read(record: &[u8; 12]) -> Self {
+        let [kind, party, low, high, set @ ..] = *record;
+        let argument = usize::from(u16::from_le_bytes([low, high]));
+        Node {
+            kind,
+            party: usize::from(party),
+            argument,
+            set: u64::from_le_bytes(set),
+        }
+    }
+}
+
+struct Tree<'a> {
+    docket: &'a Docket<'a>,
+    states: u64,
+    /// The states of verdict 0, and those of verdict 1.
+    verdicts: [u64; 2],
+}
+
+/// Tests 12 and 13.
+pub fn check(docket: &Docket) -> Result<(), Refusal> {
+    let states = u64::MAX >> (64 - docket.states.len());
+    let ones = docket.states_with(1);
+    let tree = Tree {
+        docket,
+        states,
+        verdicts: [states & !ones, ones],
+    };
+    let mut facts = Facts::default();
+    facts.absent[0] = states & !docket.states_with(2);
+    let end = tree.descend(0, &facts, 1)?;
+    if end < docket.nodes.len() {
+        return refuse(12, end);
+    }
+    Ok(())
+}
+
+fn meets(set: u64, a: u8, b: u8) -> bool {
+    (set >> (a & 63) | set >> (b & 63)) & 1 == 1
+}
+
+impl Tree<'_> {
+    /// The subtree at a place: the place after it.
+    fn descend(&self, place: usize, facts: &Facts, depth: usize) -> Result<usize, Refusal> {
+        let Some(record) = self.docket.nodes.get(place) else {
+            return refuse(12, place);
+        };
+        let node = Node::read(record);
+        if depth > DEPTH || !self.fields_fit(&node) {
+            return refuse(12, place);
+        }
+        if !self.ground_holds(&node, facts) {
+            return refuse(13, place);
+        }
+        let (first, second) = self.children(&node, facts);
+        let mut next = place + 1;
+        for child in [first, second].into_iter().flatten() {
+            next = self.descend(next, &child, depth + 1)?;
+        }
+        Ok(next)
+    }
+
+    fn fields_fit(&self, node: &Node) -> bool {
+        let run = node.party == 1 || node.party == 2;
+        let set = if node.kind < 5 {
+            node.set == 0
+        } else {
+            node.set != 0 && node.set & !self.states == 0
+        };
+        let leaves = self.docket.leaf_weights.len() / (2 * self.docket.states.len());
+        set && match node.kind {
+            0 => node.party == 0 && node.argument < leaves,
+            1 | 5 | 6 => run && node.argument == 0,
+            2 | 4 => node.party <= 2 && node.argument < self.docket.states.len(),
+            3 => run && node.argument < self.docket.rules.len(),
+            _ => false,
+        }
+    }
+
+    fn ground_holds(&self, node: &Node, facts: &Facts) -> bool {
+        match node.kind {
+            0 => self.leaf_closes(node.argument, facts),
+            1 => self.verdicts[node.party - 1] & !facts.absent[node.party] == 0,
+            2 => (facts.present[node.party] & facts.absent[node.party]) >> node.argument & 1 == 1,
+            5 => node.set & !facts.absent[node.party] == 0 && self.is_trap(node, facts),
+            6 => node.set & !facts.absent[0] == 0 && self.is_trap(node, facts),
+            _ => true,
+        }
+    }
+
+    /// Kind 5: each used rule that takes from the set puts into it. Kind 6: the other way round.
+    fn is_trap(&self, node: &Node, facts: &Facts) -> bool {
+        self.docket.rules.iter().enumerate().all(|(r, &[p, q, a, b, _])| {
+            let (takes, puts) = (meets(node.set, p, q), meets(node.set, a, b));
+            let keeps = if node.kind == 5 { !takes | puts } else { !puts | takes };
+            keeps || facts.is_unused(node.party, r)
+        })
+    }
+
+    fn children(&self, node: &Node, facts: &Facts) -> (Option<Facts>, Option<Facts>) {
+        let (mut first, mut second) = (*facts, *facts);
+        match node.kind {
+            3 => {
+                let [p, q, ..] = self.docket.rules[node.argument];
+                if p == q {
+                    first.at_most_one[node.party] |= 1 << p;
+                    return (Some(first), None);
+                }
+                first.absent[node.party] |= 1 << p;
+                second.absent[node.party] |= 1 << q;
+                (Some(first), Some(second))
+            }
+            4 => {
+                first.absent[node.party] |= 1 << node.argument;
+                second.present[node.party] |= 1 << node.argument;
+                (Some(first), Some(second))
+            }
+            5 | 6 => {
+                first.absent[if node.kind == 5 { 0 } else { node.party }] |= node.set;
+                for (r, &[p, q, a, b, _]) in self.docket.rules.iter().enumerate() {
+                    let touches = meets(node.set, p, q) | meets(node.set, a, b);
+                    first.unused[node.party][r / 64] |= u64::from(touches) << (r % 64);
+                }
+                (Some(first), None)
+            }
+            _ => (None, None),
+        }
+    }
+
+    /// The leaf rule.
+    fn leaf_closes(&self, leaf: usize, facts: &Facts) -> bool {
+        let states = self.docket.states.len();
+        let weights = &self.docket.leaf_weights[2 * leaf * states..][..2 * states];
+        let y = |run: usize, state: usize| i64::from(i16::from_le_bytes(weights[(run - 1) * states + state]));
+        let pair = |run: usize, a: u8, b: u8| y(run, a.into()) + y(run, b.into());
+        let raises = |run: usize, &[p, q, a, b, _]: &Rule| pair(run, a, b) > pair(run, p, q);
+        let mut rules = self.docket.rules.iter().enumerate();
+        if rules.any(|(r, rule)| (1..3).any(|run| !facts.is_unused(run, r) && raises(run, rule))) {
+            return false;
+        }
+        let (mut lower, mut upper) = (0, 0);
+        for state in 0..states {
+            let has = |set: u64| set >> state & 1 == 1;
+            if !has(facts.absent[0]) {
+                let sum = y(1, state) + y(2, state);
+                if sum > 0 {
+                    return false;
+                }
+                upper += if has(facts.present[0]) { sum } else { 0 };
+            }
+            for end in 1..3 {
+                let weight = y(end, state);
+                if has(facts.absent[end]) {
+                    continue;
+                }
+                if weight < 0 && !has(facts.at_most_one[end]) {
+                    return false;
+                }
+                lower += if weight < 0 || has(facts.present[end]) {
+                    weight
+                } else {
+                    0
+                };
+            }
+        }
+        lower > upper
+    }
+}

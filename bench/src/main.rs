@@ -1,0 +1,255 @@
+//! Times the proved implementation, through C, against the same methods in Rust, in one process and on the same input.
+//!
+//!     bench            times all cases
+//!     bench WORD       times the cases whose name has the word
+//!     bench answers    times nothing: both must say the same in every case
+//!
+//! Each round times both, one after the other, over as many repetitions as take some milliseconds. The ratio of a case is
+//! the median of its rounds' ratios: below 1, the proved implementation is the faster one.
+
+mod baseline;
+
+use std::hint::black_box;
+use std::time::Instant;
+use tests::calls::Call;
+use tests::second::Docket;
+use tests::{make, native, second};
+
+const ROUNDS: usize = 15;
+const LEAST_SECONDS: f64 = 0.004;
+
+/// One case: what is timed, how many things one call does, and the two implementations.
+struct Case<'a> {
+    name: String,
+    unit: &'static str,
+    units: u64,
+    proved: Box<dyn FnMut() -> u64 + 'a>,
+    baseline: Box<dyn FnMut() -> u64 + 'a>,
+}
+
+fn main() {
+    let word = std::env::args().nth(1).unwrap_or_default();
+    if word == "answers" {
+        return compare_answers();
+    }
+    println!("{:<52} {:>12} {:>12}  {:>6}", "case", "proved", "baseline", "ratio");
+    let inputs = Inputs::new();
+    let mut ratios = vec![];
+    for case in inputs.cases() {
+        if case.name.contains(&word) {
+            ratios.push(time(case));
+        }
+    }
+    let greatest = ratios.iter().copied().fold(0.0, f64::max);
+    println!("{} cases, greatest ratio {greatest:.2}", ratios.len());
+}
+
+/// Prints how many cases have one answer; a case that has two ends the program.
+fn compare_answers() {
+    let inputs = Inputs::new();
+    let mut cases = inputs.cases();
+    cases.iter_mut().for_each(same_answer);
+    println!("{} passed, 0 failed", cases.len());
+}
+
+fn same_answer(case: &mut Case) {
+    assert_eq!(
+        (case.proved)(),
+        (case.baseline)(),
+        "{}: the two answers differ",
+        case.name
+    );
+}
+
+/// Prints nanoseconds a unit for both, and hands back the median ratio.
+fn time(mut case: Case) -> f64 {
+    assert_eq!(
+        (case.proved)(),
+        (case.baseline)(),
+        "{}: the two answers differ",
+        case.name
+    );
+    let repetitions = repetitions(&mut case.proved);
+    let mut rounds: Vec<[f64; 3]> = vec![];
+    for _ in 0..ROUNDS {
+        let proved = seconds(&mut case.proved, repetitions);
+        let baseline = seconds(&mut case.baseline, repetitions);
+        rounds.push([proved, baseline, proved / baseline]);
+    }
+    let each = 1e9 / (repetitions * case.units) as f64;
+    let [proved, baseline, ratio] = [0, 1, 2].map(|column| median(rounds.iter().map(|round| round[column]).collect()));
+    let (proved, baseline) = (proved * each, baseline * each);
+    println!(
+        "{:<52} {proved:>9.1} ns {baseline:>9.1} ns  {ratio:>6.2}  a {}",
+        case.name, case.unit
+    );
+    ratio
+}
+
+fn repetitions(call: &mut dyn FnMut() -> u64) -> u64 {
+    let mut repetitions = 1;
+    while seconds(call, repetitions) < LEAST_SECONDS {
+        repetitions *= 2;
+    }
+    repetitions
+}
+
+fn seconds(call: &mut dyn FnMut() -> u64, repetitions: u64) -> f64 {
+    let start = Instant::now();
+    for _ in 0..repetitions {
+        black_box(call());
+    }
+    start.elapsed().as_secs_f64()
+}
+
+fn median(mut values: Vec<f64>) -> f64 {
+    values.sort_by(f64::total_cmp);
+    values[values.len() / 2]
+}
+
+/// The dockets of all cases, which outlive them.
+struct Inputs {
+    checks: Vec<(String, Vec<u8>)>,
+    runs: Vec<(String, Vec<u8>, Vec<u32>)>,
+}
+
+impl Inputs {
+    fn new() -> Inputs {
+        Inputs {
+            checks: checks(),
+            runs: runs(),
+        }
+    }
+
+    fn cases(&self) -> Vec<Case<'_>> {
+        let mut cases: Vec<Case> = self
+            .checks
+            .iter()
+            .map(|(name, docket)| check_case(name, docket))
+            .collect();
+        cases.extend(
+            self.runs
+                .iter()
+                .map(|(name, docket, counts)| run_case(name, docket, counts)),
+        );
+        cases.extend(
+            self.runs
+                .iter()
+                .map(|(name, docket, counts)| standstill_case(name, docket, counts)),
+        );
+        cases
+    }
+}
+
+fn checks() -> Vec<(String, Vec<u8>)> {
+    let mut dockets: Vec<(String, Docket)> = vec![("check, every count at its limit".into(), make::largest())];
+    for nodes in [64, 256, 1024, 2048] {
+        dockets.push((format!("check, 60 states, {nodes} nodes"), make::relay(60, nodes)));
+    }
+    dockets.push((
+        "check, 2,048 nodes, 128 leaves, 1 rule".into(),
+        make::layered(64, 1, 1, 2048, 128),
+    ));
+    dockets.push((
+        "check, 2,048 nodes, 128 leaves, 256 rules".into(),
+        make::layered(64, 256, 1, 2048, 128),
+    ));
+    for rules in [32, 64, 128, 256] {
+        dockets.push((
+            format!("check, mostly handover, {rules} rules, 16 layers"),
+            make::layered(64, rules, 16, 6, 1),
+        ));
+    }
+    for states in [4, 10, 22] {
+        let verdicts: Vec<u8> = (0..states).map(|state| u8::from(state + 1 == states)).collect();
+        dockets.push((format!("check, maximum of {states} states"), make::maximum(&verdicts)));
+    }
+    dockets.push(("check, broadcast".into(), make::broadcast()));
+    dockets
+        .into_iter()
+        .map(|(name, docket)| (name, docket.bytes()))
+        .collect()
+}
+
+fn check_case<'a>(name: &str, docket: &'a [u8]) -> Case<'a> {
+    assert!(second::check(docket).is_ok(), "{name} is not accepted");
+    Case {
+        name: name.into(),
+        unit: "check",
+        units: 1,
+        proved: Box::new(move || native::check(black_box(docket))),
+        baseline: Box::new(move || baseline::check_code(black_box(docket))),
+    }
+}
+
+/// Tables with the counts that a run starts from; a run makes at most 100,000 meetings.
+fn runs() -> Vec<(String, Vec<u8>, Vec<u32>)> {
+    let mut runs = vec![];
+    for workers in [2_000, 1_000_000] {
+        for states in [2, 10, 60] {
+            let mut counts = vec![0; states];
+            (counts[0], counts[states - 1]) = (workers - 1, 1);
+            runs.push((
+                format!("relay, {states} states, {workers} workers"),
+                make::relay(states, 5).bytes(),
+                counts,
+            ));
+        }
+        for states in [4, 10, 22] {
+            let docket = make::maximum(&vec![0; states]).bytes();
+            runs.push((
+                format!("maximum, {states} states, {workers} workers"),
+                docket,
+                spread(states, workers),
+            ));
+        }
+        for layers in [2, 16] {
+            let docket = make::layered(64, 256, layers, 6, 1).bytes();
+            runs.push((
+                format!("256 rules in {layers} layers, {workers} workers"),
+                docket,
+                spread(64, workers),
+            ));
+        }
+    }
+    runs
+}
+
+fn spread(states: usize, workers: u32) -> Vec<u32> {
+    let mut counts = vec![workers / states as u32; states];
+    counts[0] += workers % states as u32;
+    counts
+}
+
+const LIMIT: u32 = 100_000;
+
+fn run_case<'a>(name: &str, docket: &'a [u8], counts: &'a [u32]) -> Case<'a> {
+    let mut after = counts.to_vec();
+    let meetings = native::say(docket, &mut after, Call::Run(LIMIT)).answers[0];
+    Case {
+        name: format!("run, {name}"),
+        unit: "meeting",
+        units: meetings,
+        proved: Box::new(move || {
+            let mut group = black_box(counts).to_vec();
+            native::say(docket, &mut group, Call::Run(LIMIT)).answers[0] + u64::from(group[0])
+        }),
+        baseline: Box::new(move || {
+            let mut group = black_box(counts).to_vec();
+            baseline::run(docket, &mut group, LIMIT).map_or(0, |(steps, _)| steps) + u64::from(group[0])
+        }),
+    }
+}
+
+/// A call that makes tests 1 to 8 and looks for one rule.
+fn standstill_case<'a>(name: &str, docket: &'a [u8], counts: &'a [u32]) -> Case<'a> {
+    let mut group = counts.to_vec();
+    let mut other = counts.to_vec();
+    Case {
+        name: format!("step refused, {name}"),
+        unit: "call",
+        units: 1,
+        proved: Box::new(move || native::say(black_box(docket), &mut group, Call::Step(1000)).code),
+        baseline: Box::new(move || baseline::step_code(black_box(docket), &mut other, 1000)),
+    }
+}

@@ -1,0 +1,411 @@
+/*
+ * The C boundary: hands every function of docket.h exact copies of docket files and of shortened ones.
+ *
+ *     boundary FILE.docket...          FILE.expect stands beside each
+ *
+ * The library is not instrumented, so each call is made on three kinds of copies: blocks of the heap of exactly the
+ * size, for AddressSanitizer; blocks that end where a page without access begins; and blocks that begin where such a
+ * page ends. Dockets of the last two kinds stand in pages that cannot be written.
+ */
+#define _DEFAULT_SOURCE
+#include <inttypes.h>
+#include <stdint.h>
+#include <stdio.h>
+#include <stdlib.h>
+#include <string.h>
+#include <sys/mman.h>
+#include <unistd.h>
+
+#include "docket.h"
+
+enum {
+    HEADER = 24,
+    MOST_BYTES = 65535,                /* of a docket */
+    MOST_LENT = MOST_BYTES + 65536,    /* of what is handed over as a docket */
+    MOST_COUNTS = 65,                  /* one more than the states a docket can have */
+    WORKERS = 1000000,
+    SHOWN = 5,                         /* failures of one file that are shown */
+    CALLS = 14
+};
+
+enum kind { HEAP, ENDS_AT_GUARD, BEGINS_AT_GUARD, KINDS };
+enum function { START_TEST, CAN_ACT, IS_STANDSTILL, VERDICT, STEP, RUN, CHECK, FUNCTIONS };
+enum filling { START, ZEROS, ALL_BITS, A_MILLION, FILLINGS };
+
+static const char *const names[FUNCTIONS] = {"docket_start_test", "docket_can_act", "docket_is_standstill",
+                                             "docket_verdict",    "docket_step",    "docket_run",
+                                             "docket_check"};
+
+struct call {
+    enum function function;
+    uint32_t argument; /* rule number or limit */
+};
+
+/* Memory with a page without access on both sides. */
+struct region {
+    uint8_t *begin;
+    size_t size;
+};
+
+struct file {
+    const char *name;
+    uint8_t bytes[MOST_LENT];
+    size_t len;
+    size_t states;
+    struct call calls[CALLS];
+    unsigned failures;
+};
+
+/* One docket in every kind of copy, and the answer of docket_check for it. */
+struct lent {
+    const char *variant;
+    const uint8_t *copy[KINDS];
+    size_t len;
+    uint64_t checked;
+};
+
+/* Counts as they are before each call, and where each kind of copy of them stands. */
+struct counts {
+    uint32_t before[MOST_COUNTS];
+    uint32_t *copy[KINDS];
+    size_t len;
+};
+
+struct outcome {
+    uint64_t code;
+    uint64_t first;
+    uint64_t second;
+};
+
+static struct region docket_regions[KINDS];
+static struct region counts_regions[KINDS];
+static uint64_t calls_made[FUNCTIONS];
+static uint64_t calls_not_refused[FUNCTIONS];
+
+static void stop(const char *what)
+{
+    perror(what);
+    exit(2);
+}
+
+static struct region new_region(size_t wanted)
+{
+    size_t page = (size_t)sysconf(_SC_PAGESIZE);
+    size_t size = (wanted + page - 1) / page * page;
+    uint8_t *all = mmap(NULL, size + 2 * page, PROT_NONE, MAP_PRIVATE | MAP_ANONYMOUS, -1, 0);
+    if (all == MAP_FAILED || mprotect(all + page, size, PROT_READ | PROT_WRITE) != 0)
+        stop("mmap");
+    return (struct region){all + page, size};
+}
+
+/* Where a block of len bytes stands in the region of its kind. */
+static uint8_t *place(struct region r, enum kind kind, size_t len)
+{
+    return kind == ENDS_AT_GUARD ? r.begin + r.size - len : r.begin;
+}
+
+static void *new_block(size_t len)
+{
+    void *block = malloc(len > 0 ? len : 1);
+    if (block == NULL)
+        stop("malloc");
+    return block;
+}
+
+static void lend(struct lent *lent, const char *variant, const uint8_t *bytes, size_t len)
+{
+    uint8_t *block = new_block(len);
+    memcpy(block, bytes, len);
+    *lent = (struct lent){.variant = variant, .len = len};
+    lent->copy[HEAP] = block;
+    for (enum kind k = ENDS_AT_GUARD; k < KINDS; k++) {
+        struct region r = docket_regions[k];
+        uint8_t *copy = place(r, k, len);
+        if (mprotect(r.begin, r.size, PROT_READ | PROT_WRITE) != 0)
+            stop("mprotect");
+        memcpy(copy, bytes, len);
+        if (mprotect(r.begin, r.size, PROT_READ) != 0)
+            stop("mprotect");
+        lent->copy[k] = copy;
+    }
+}
+
+static void expect(struct file *file, const struct lent *lent, const struct call *call, int holds, const char *what)
+{
+    if (holds)
+        return;
+    if (file->failures++ < SHOWN)
+        printf("%s: %s, %zu bytes, %s(%" PRIu32 "): %s\n", file->name, lent->variant, lent->len,
+               names[call->function], call->argument, what);
+}
+
+static uint64_t make(const struct call *call, const uint8_t *docket, size_t len, uint32_t *counts, size_t counts_len,
+                     uint64_t *first, uint64_t *second)
+{
+    switch (call->function) {
+    case START_TEST:
+        return docket_start_test(docket, len, counts, counts_len);
+    case CAN_ACT:
+        return docket_can_act(docket, len, counts, counts_len, call->argument, first);
+    case IS_STANDSTILL:
+        return docket_is_standstill(docket, len, counts, counts_len, first);
+    case VERDICT:
+        return docket_verdict(docket, len, counts, counts_len, first);
+    case STEP:
+        return docket_step(docket, len, counts, counts_len, call->argument);
+    case RUN:
+        return docket_run(docket, len, counts, counts_len, call->argument, first, second);
+    default:
+        return docket_check(docket, len);
+    }
+}
+
+/* Whether a call of the machine may return this code for a docket with this answer of docket_check:
+   a refusal of tests 1 to 8 is passed back, and after them come only 20 to 24. */
+static int follows(uint64_t code, uint64_t checked)
+{
+    uint32_t number = docket_check_number(checked);
+    if (number >= 1 && number <= 8)
+        return docket_call_number(code) == number && docket_call_place(code) == docket_check_place(checked);
+    return code == 0 || (docket_call_number(code) >= 20 && docket_call_number(code) <= 24);
+}
+
+/* Makes the call on one kind of copies, and checks that it wrote only what it may. */
+static struct outcome try_kind(struct file *file, const struct lent *lent, const struct counts *counts,
+                               const struct call *call, enum kind kind)
+{
+    enum { OLD = 77, EDGE = 99 };
+    uint64_t out[5] = {EDGE, OLD, EDGE, OLD, EDGE};
+    size_t size = counts->len * sizeof(uint32_t);
+    memcpy(counts->copy[kind], counts->before, size);
+    uint64_t code = make(call, lent->copy[kind], lent->len, counts->copy[kind], counts->len, &out[1], &out[3]);
+    calls_made[call->function]++;
+    calls_not_refused[call->function] += code == 0;
+
+    int may_move = code == 0 && (call->function == STEP || call->function == RUN);
+    expect(file, lent, call, may_move || memcmp(counts->copy[kind], counts->before, size) == 0, "counts changed");
+    expect(file, lent, call, code == 0 || (out[1] == OLD && out[3] == OLD), "a refused call wrote an answer");
+    expect(file, lent, call, out[0] == EDGE && out[2] == EDGE && out[4] == EDGE, "wrote beside an answer");
+    /* The other kinds stand in pages that cannot be written. */
+    if (kind == HEAP)
+        expect(file, lent, call, memcmp(lent->copy[HEAP], lent->copy[ENDS_AT_GUARD], lent->len) == 0, "docket changed");
+    return (struct outcome){code, out[1], out[3]};
+}
+
+/* Makes the call on every kind of copies, and compares what came of it. */
+static uint64_t try_call(struct file *file, const struct lent *lent, const struct counts *counts,
+                         const struct call *call)
+{
+    size_t size = counts->len * sizeof(uint32_t);
+    struct outcome heap = try_kind(file, lent, counts, call, HEAP);
+    for (enum kind k = ENDS_AT_GUARD; k < KINDS; k++) {
+        struct outcome o = try_kind(file, lent, counts, call, k);
+        int same = o.code == heap.code && o.first == heap.first && o.second == heap.second;
+        expect(file, lent, call, same, "another answer for another copy");
+        expect(file, lent, call, memcmp(counts->copy[k], counts->copy[HEAP], size) == 0, "other counts in a copy");
+    }
+    return heap.code;
+}
+
+static uint32_t filled(const struct file *file, enum filling filling, size_t state)
+{
+    switch (filling) {
+    case START: {
+        size_t at = HEADER + state;
+        return at < file->len && (file->bytes[at] & 2) != 0 && state < file->states ? 3 : 0;
+    }
+    case ALL_BITS:
+        return UINT32_MAX;
+    case A_MILLION:
+        return state == 0 ? WORKERS : 0;
+    default:
+        return 0;
+    }
+}
+
+static void try_counts(struct file *file, const struct lent *lent, size_t len, enum filling filling)
+{
+    struct counts counts = {.len = len};
+    size_t size = len * sizeof(uint32_t);
+    for (size_t i = 0; i < len; i++)
+        counts.before[i] = filled(file, filling, i);
+    counts.copy[HEAP] = new_block(size);
+    for (enum kind k = ENDS_AT_GUARD; k < KINDS; k++)
+        counts.copy[k] = (uint32_t *)(void *)place(counts_regions[k], k, size);
+    for (size_t i = 0; i < CALLS; i++) {
+        uint64_t code = try_call(file, lent, &counts, &file->calls[i]);
+        expect(file, lent, &file->calls[i], follows(code, lent->checked), "not the refusal that the docket has");
+    }
+    free(counts.copy[HEAP]);
+}
+
+/* Test 1 of the check. */
+static int length_is_wrong(const uint8_t *bytes, size_t len)
+{
+    return len < HEADER || (size_t)(bytes[22] + 256 * bytes[23]) != len;
+}
+
+/* Makes every call on one docket. Returns the answer of docket_check. */
+static uint64_t try_docket(struct file *file, const char *variant, const uint8_t *bytes, size_t len)
+{
+    static const struct call check = {CHECK, 0};
+    const size_t lengths[] = {0, file->states - 1, file->states, file->states + 1};
+    uint32_t none = 0;
+    struct counts no_counts = {.len = 0, .copy = {&none, &none, &none}};
+    struct lent lent;
+    lend(&lent, variant, bytes, len);
+    lent.checked = try_call(file, &lent, &no_counts, &check);
+    int refused_1 = lent.checked == 65536;
+    expect(file, &lent, &check, refused_1 == length_is_wrong(bytes, len), "refusal 1, 0 at the wrong place");
+    for (size_t i = 0; i < sizeof lengths / sizeof lengths[0]; i++)
+        for (enum filling f = START; f < FILLINGS; f++)
+            try_counts(file, &lent, lengths[i], f);
+    free((void *)(uintptr_t)lent.copy[HEAP]);
+    return lent.checked;
+}
+
+static void set16(uint8_t *bytes, size_t at, size_t value)
+{
+    bytes[at] = (uint8_t)(value % 256);
+    bytes[at + 1] = (uint8_t)(value / 256);
+}
+
+static size_t get16(const uint8_t *bytes, size_t at) { return bytes[at] + 256u * bytes[at + 1]; }
+
+/* Cuts the docket behind a node, with number of nodes, offset and total length to match and no leaf. */
+static void try_cut(struct file *file, size_t len)
+{
+    static uint8_t bytes[MOST_LENT];
+    size_t nodes = get16(file->bytes, 18);
+    if (nodes < HEADER || len <= nodes || (len - nodes) % 12 != 0 || len > get16(file->bytes, 20))
+        return;
+    memcpy(bytes, file->bytes, len);
+    set16(bytes, 8, (len - nodes) / 12);
+    set16(bytes, 10, 0);
+    set16(bytes, 20, len);
+    set16(bytes, 22, len);
+    try_docket(file, "cut behind a node", bytes, len);
+}
+
+static void try_truncations(struct file *file)
+{
+    static uint8_t bytes[MOST_LENT];
+    for (size_t len = 0; len < file->len; len++) {
+        if (file->len > 2000 && len >= 200 && len + 200 < file->len && len % 101 != 0)
+            continue;
+        try_docket(file, "truncated", file->bytes, len);
+        if (len < HEADER)
+            continue;
+        memcpy(bytes, file->bytes, len);
+        set16(bytes, 22, len);
+        try_docket(file, "truncated, total length set", bytes, len);
+        try_cut(file, len);
+    }
+}
+
+/* One byte more, and as many more as a length of 16 bits does not show. */
+static void try_longer(struct file *file)
+{
+    try_docket(file, "one byte more", file->bytes, file->len + 1);
+    try_docket(file, "65,536 bytes more", file->bytes, file->len + 65536);
+}
+
+/* The code of docket_check that the line in FILE.expect stands for; 1, which is no code, where there is none. */
+static uint64_t expected_code(const char *docket_name)
+{
+    static const char tail[] = ".docket";
+    char name[4096];
+    char line[64];
+    uint64_t number = 0, place = 0;
+    size_t stem = strlen(docket_name) >= sizeof tail ? strlen(docket_name) - (sizeof tail - 1) : 0;
+    if (stem == 0 || strcmp(docket_name + stem, tail) != 0)
+        return 1;
+    int written = snprintf(name, sizeof name, "%.*s.expect", (int)stem, docket_name);
+    if (written < 0 || (size_t)written >= sizeof name)
+        return 1;
+    FILE *f = fopen(name, "r");
+    if (f == NULL)
+        return 1;
+    int got = fgets(line, sizeof line, f) != NULL;
+    if (fclose(f) != 0 || !got)
+        return 1;
+    if (strncmp(line, "accepted ", 9) == 0)
+        return 0;
+    if (sscanf(line, "refused %" SCNu64 " %" SCNu64, &number, &place) != 2)
+        return 1;
+    return number * 65536 + place;
+}
+
+static void list_calls(struct file *file, uint32_t rules)
+{
+    const struct call calls[CALLS] = {
+        {START_TEST, 0}, {IS_STANDSTILL, 0},   {VERDICT, 0},     {RUN, 0},          {RUN, 1}, {RUN, 1000},
+        {CAN_ACT, 0},    {CAN_ACT, rules - 1}, {CAN_ACT, rules}, {CAN_ACT, UINT32_MAX},
+        {STEP, 0},       {STEP, rules - 1},    {STEP, rules},    {STEP, UINT32_MAX},
+    };
+    memcpy(file->calls, calls, sizeof calls);
+}
+
+/* Reads the file. The numbers of states and rules are the header's, or 2 and 1 where it has no such header. */
+static void read_file(struct file *file, const char *name)
+{
+    FILE *f = fopen(name, "rb");
+    if (f == NULL)
+        stop(name);
+    memset(file, 0, sizeof *file);
+    file->name = name;
+    file->len = fread(file->bytes, 1, MOST_BYTES, f);
+    if (ferror(f) || fgetc(f) != EOF || fclose(f) != 0)
+        stop(name);
+    size_t states = get16(file->bytes, 2);
+    size_t rules = get16(file->bytes, 4);
+    file->states = states >= 2 && states <= 64 ? states : 2;
+    list_calls(file, rules <= 256 ? (uint32_t)rules : 1);
+}
+
+/* Returns 1 where all that was tried on the file held, else 0. */
+static int try_file(const char *name)
+{
+    static struct file file;
+    read_file(&file, name);
+    uint64_t checked = try_docket(&file, "whole file", file.bytes, file.len);
+    if (checked != expected_code(name)) {
+        file.failures++;
+        printf("%s: docket_check returned %" PRIu64 ", which is not what the .expect file says\n", name, checked);
+    }
+    try_truncations(&file);
+    try_longer(&file);
+    return file.failures == 0;
+}
+
+/* Prints how many calls were made. Returns 1 where every function was at least once not refused, else 0. */
+static int say_calls(void)
+{
+    uint64_t made = 0, not_refused = 0;
+    int all_worked = 1;
+    for (int f = 0; f < FUNCTIONS; f++) {
+        printf("%s: %" PRIu64 " calls, %" PRIu64 " not refused\n", names[f], calls_made[f], calls_not_refused[f]);
+        made += calls_made[f];
+        not_refused += calls_not_refused[f];
+        all_worked = all_worked && calls_not_refused[f] > 0;
+    }
+    printf("%" PRIu64 " calls, %" PRIu64 " not refused\n", made, not_refused);
+    return all_worked;
+}
+
+int main(int argc, char **argv)
+{
+    int passed = 0;
+    for (enum kind k = ENDS_AT_GUARD; k < KINDS; k++) {
+        docket_regions[k] = new_region(MOST_LENT);
+        counts_regions[k] = new_region(MOST_COUNTS * sizeof(uint32_t));
+    }
+    for (int i = 1; i < argc; i++)
+        passed += try_file(argv[i]);
+    if (!say_calls()) {
+        printf("a function was refused in every call\n");
+        return 1;
+    }
+    printf("%d passed, %d failed\n", passed, argc - 1 - passed);
+    return passed == argc - 1 ? 0 : 1;
+}

@@ -1,0 +1,77 @@
+//! A machine call, and what it says in the terms of `docket.h`.
+
+use crate::second::{self, Ran, Refusal, Verdict};
+
+#[derive(Clone, Copy, Debug, PartialEq, Eq)]
+pub enum Call {
+    StartTest,
+    CanAct(u32),
+    IsStandstill,
+    Verdict,
+    Step(u32),
+    Run(u32),
+}
+
+/// What an answer holds before the call, and still holds after a refusal.
+pub const UNTOUCHED: u64 = 0x5555_aaaa_5555_aaaa;
+
+/// 0, or a refusal's number times 2 to the power 32 plus its place; and the values behind the answer pointers.
+#[derive(Clone, Copy, Debug, PartialEq, Eq)]
+pub struct Said {
+    pub code: u64,
+    pub answers: [u64; 2],
+}
+
+impl Said {
+    pub fn refusal(&self) -> Option<Refusal> {
+        let (number, place) = ((self.code >> 32) as u32, self.code as u32);
+        (self.code != 0).then_some(Refusal { number, place })
+    }
+
+    fn done(answers: &[u64]) -> Said {
+        let mut all = [UNTOUCHED; 2];
+        all[..answers.len()].copy_from_slice(answers);
+        Said { code: 0, answers: all }
+    }
+
+    fn refused(refusal: Refusal) -> Said {
+        let code = (u64::from(refusal.number) << 32) + u64::from(refusal.place);
+        Said {
+            code,
+            answers: [UNTOUCHED; 2],
+        }
+    }
+}
+
+/// What the second implementation says to a call.
+pub fn say(docket: &[u8], counts: &mut [u32], call: Call) -> Said {
+    let said = match call {
+        Call::StartTest => second::start_test(docket, counts).map(|()| Said::done(&[])),
+        Call::CanAct(rule) => second::can_act(docket, counts, rule).map(|t| Said::done(&[u64::from(t)])),
+        Call::IsStandstill => second::is_standstill(docket, counts).map(|t| Said::done(&[u64::from(t)])),
+        Call::Verdict => second::verdict(docket, counts).map(|v| Said::done(&[verdict_number(v)])),
+        Call::Step(rule) => second::step(docket, counts, rule).map(|()| Said::done(&[])),
+        Call::Run(limit) => second::run(docket, counts, limit).map(|ran| Said::done(&ran_numbers(ran))),
+    };
+    said.unwrap_or_else(Said::refused)
+}
+
+fn verdict_number(verdict: Verdict) -> u64 {
+    match verdict {
+        Verdict::Zero => 0,
+        Verdict::One => 1,
+        Verdict::Mixed => 2,
+    }
+}
+
+fn ran_numbers(ran: Ran) -> [u64; 2] {
+    [ran.steps, u64::from(ran.rests)]
+}
+
+/// What the check of the second implementation says, as docket_check says it.
+pub fn check_code(docket: &[u8]) -> u64 {
+    match second::check(docket) {
+        Ok(_) => 0,
+        Err(refusal) => u64::from(refusal.number) * 65_536 + u64::from(refusal.place),
+    }
+}

@@ -1,0 +1,341 @@
+//! Changes to dockets: those that keep a docket accepted, and faults of every kind.
+
+use crate::make::{node, rule};
+use crate::random::Random;
+use crate::second::{Docket, Leaf, Node};
+
+// ---- Changes that keep a docket accepted
+
+/// The same protocol and certificate written in another way: states and rules numbered anew, weights raised, leaves
+/// that no node names.
+pub fn rewritten(docket: &Docket, random: &mut Random) -> Docket {
+    let mut other = docket.clone();
+    if random.chance(2, 3) {
+        renumber_states(&mut other, random);
+    }
+    if random.chance(2, 3) {
+        renumber_rules(&mut other, random);
+    }
+    if random.chance(1, 2) {
+        raise_weights(&mut other, random);
+    }
+    if random.chance(1, 4) {
+        let count = random.below(129 - other.leaves.len().min(128));
+        let weights = |random: &mut Random| {
+            (0..docket.states.len())
+                .map(|_| random.below(20_001) as i64 - 10_000)
+                .collect()
+        };
+        let room = (65_535 - other.bytes().len().min(65_535)) / (4 * docket.states.len());
+        for _ in 0..count.min(room) {
+            other.leaves.push(Leaf {
+                y1: weights(random),
+                y2: weights(random),
+            });
+        }
+    }
+    other
+}
+
+fn renumber_states(docket: &mut Docket, random: &mut Random) {
+    let old = docket.clone();
+    let count = docket.states.len();
+    let mut new: Vec<usize> = (0..count).collect();
+    random.shuffle(&mut new);
+    let sorted = |[a, b]: [usize; 2]| [new[a].min(new[b]), new[a].max(new[b])];
+    for rule in &mut docket.rules {
+        (rule.before, rule.after) = (sorted(rule.before), sorted(rule.after));
+    }
+    for (i, &at) in new.iter().enumerate() {
+        docket.states[at] = old.states[i];
+        for (layer, was) in docket.weights.iter_mut().zip(&old.weights) {
+            layer[at] = was[i];
+        }
+        for (leaf, was) in docket.leaves.iter_mut().zip(&old.leaves) {
+            (leaf.y1[at], leaf.y2[at]) = (was.y1[i], was.y2[i]);
+        }
+        for (node, was) in docket.nodes.iter_mut().zip(&old.nodes) {
+            node.set[at] = was.set[i];
+        }
+    }
+    for (place, was) in old.nodes.iter().enumerate() {
+        if was.kind == 2 || was.kind == 4 {
+            docket.nodes[place].argument = new[was.argument];
+        }
+    }
+    swap_children(docket, &old, &new);
+}
+
+/// Where the numbers of p and q of a rule change their order, so do the two children of its nodes.
+fn swap_children(docket: &mut Docket, old: &Docket, new: &[usize]) {
+    for place in (0..docket.nodes.len()).rev() {
+        let node = docket.nodes[place];
+        if node.kind == 3 {
+            let [p, q] = old.rules[node.argument].before;
+            if p != q && new[p] > new[q] {
+                let middle = after_subtree(docket, place + 1);
+                let end = after_subtree(docket, middle);
+                docket.nodes[place + 1..end].rotate_left(middle - place - 1);
+            }
+        }
+    }
+}
+
+/// The place after the subtree that begins at a place.
+fn after_subtree(docket: &Docket, place: usize) -> usize {
+    let mut open = 1;
+    let mut at = place;
+    while open > 0 && at < docket.nodes.len() {
+        open += children(docket, &docket.nodes[at]);
+        open -= 1;
+        at += 1;
+    }
+    at
+}
+
+fn children(docket: &Docket, node: &Node) -> usize {
+    match node.kind {
+        3 => docket
+            .rules
+            .get(node.argument)
+            .map_or(0, |rule| 1 + usize::from(rule.before[0] != rule.before[1])),
+        4 => 2,
+        5 | 6 => 1,
+        _ => 0,
+    }
+}
+
+fn renumber_rules(docket: &mut Docket, random: &mut Random) {
+    let mut order: Vec<usize> = (0..docket.rules.len()).collect();
+    random.shuffle(&mut order);
+    docket.rules = order.iter().map(|&r| docket.rules[r]).collect();
+    for node in docket.nodes.iter_mut().filter(|node| node.kind == 3) {
+        node.argument = order.iter().position(|&r| r == node.argument).unwrap_or(node.argument);
+    }
+}
+
+/// Multiplies a layer's weights and adds to them, up to the limit.
+fn raise_weights(docket: &mut Docket, random: &mut Random) {
+    for layer in &mut docket.weights {
+        let greatest = layer.iter().copied().max().unwrap_or(0).max(1);
+        let factor = 1 + random.below((1_000_000 / greatest) as usize) as i64;
+        let rest = 1_000_000 - greatest * factor;
+        let more = if random.chance(1, 2) {
+            rest
+        } else {
+            random.below(rest as usize + 1) as i64
+        };
+        for weight in layer {
+            *weight = *weight * factor + more;
+        }
+    }
+}
+
+// ---- Faults
+
+/// The docket's bytes with one to three faults of random kinds.
+pub fn damaged(docket: &Docket, random: &mut Random) -> Vec<u8> {
+    let raw = random.chance(1, 5);
+    let mut other = docket.clone();
+    for _ in 0..random.below(4) / 2 + usize::from(!raw) {
+        damage_record(&mut other, random);
+    }
+    let mut bytes = other.bytes();
+    if raw {
+        damage_bytes(&mut bytes, random);
+    }
+    bytes
+}
+
+/// Changes one record. Trees and leaves are changed more often than what comes before them.
+fn damage_record(docket: &mut Docket, random: &mut Random) {
+    match random.below(16) {
+        0 => damage_state(docket, random),
+        1 | 2 => damage_rule(docket, random),
+        3 => damage_order(docket, random),
+        4 | 5 => damage_weight(docket, random),
+        6 => damage_leaf(docket, random),
+        7 | 8 => damage_tree(docket, random),
+        _ => damage_node(docket, random),
+    }
+}
+
+fn damage_state(docket: &mut Docket, random: &mut Random) {
+    let at = random.below(docket.states.len());
+    match random.below(4) {
+        0 => docket.states[at].verdict = random.below(256) as u8,
+        1 => docket.states.iter_mut().for_each(|state| state.input = false),
+        2 => docket.states[at].input ^= true,
+        _ => docket.states[at].verdict ^= 1,
+    }
+}
+
+fn damage_rule(docket: &mut Docket, random: &mut Random) {
+    if docket.rules.is_empty() {
+        docket.rules.push(rule([0, 0], [0, 1], 0));
+        return;
+    }
+    let count = docket.states.len() + usize::from(random.chance(1, 8));
+    let (at, other) = (random.below(docket.rules.len()), random.below(docket.rules.len()));
+    let copy = docket.rules[other];
+    let rule = &mut docket.rules[at];
+    match random.below(9) {
+        0 => rule.before[random.below(2)] = random.below(count),
+        1 => rule.after[random.below(2)] = random.below(count),
+        2 => rule.before.swap(0, 1),
+        3 => rule.after.swap(0, 1),
+        4 => rule.before = copy.before,
+        5 => rule.after = rule.before,
+        6 => rule.layer = random.below(docket.weights.len() + 1),
+        7 => rule.after = copy.before,
+        _ => rule.after = [random.below(count); 2],
+    }
+}
+
+/// Exchanges, drops or adds rules or layers.
+fn damage_order(docket: &mut Docket, random: &mut Random) {
+    let (rules, layers) = (docket.rules.len(), docket.weights.len());
+    if rules == 0 || layers == 0 {
+        return;
+    }
+    match random.below(4) {
+        0 => docket.rules.swap(random.below(rules), random.below(rules)),
+        1 => drop(docket.rules.remove(random.below(rules))),
+        2 => {
+            let (a, b) = (random.below(layers), random.below(layers));
+            docket.weights.swap(a, b);
+            docket
+                .rules
+                .iter_mut()
+                .for_each(|rule| rule.layer = exchanged(rule.layer, a, b));
+        }
+        _ => docket.weights.push(docket.weights[random.below(layers)].clone()),
+    }
+}
+
+fn exchanged(layer: usize, a: usize, b: usize) -> usize {
+    match layer {
+        l if l == a => b,
+        l if l == b => a,
+        l => l,
+    }
+}
+
+fn damage_weight(docket: &mut Docket, random: &mut Random) {
+    if docket.weights.is_empty() {
+        return;
+    }
+    let layer = random.below(docket.weights.len());
+    let state = random.below(docket.states.len());
+    let values = [0, 1, 2, 3, 999_999, 1_000_000, 1_000_001, 4_294_967_295];
+    let few = if random.chance(2, 3) { 6 } else { 8 };
+    docket.weights[layer][state] = values[random.below(few)];
+}
+
+fn damage_leaf(docket: &mut Docket, random: &mut Random) {
+    if docket.leaves.is_empty() {
+        return;
+    }
+    let at = random.below(docket.leaves.len());
+    let state = random.below(docket.states.len());
+    let leaf = &mut docket.leaves[at];
+    let weights = if random.chance(1, 2) {
+        &mut leaf.y1
+    } else {
+        &mut leaf.y2
+    };
+    weights[state] = *random.pick(&[-32_768, -10_001, -10_000, -1, 0, 1, 2, 10_000, 10_001, 32_767]);
+}
+
+/// Drops, doubles, exchanges or adds nodes.
+fn damage_tree(docket: &mut Docket, random: &mut Random) {
+    let count = docket.nodes.len();
+    if count == 0 {
+        return;
+    }
+    let (at, other) = (random.below(count), random.below(count));
+    match random.below(5) {
+        0 => drop(docket.nodes.remove(at)),
+        1 => docket.nodes.insert(at, docket.nodes[other]),
+        2 => docket.nodes.swap(at, other),
+        3 => docket.nodes.push(docket.nodes[other]),
+        _ => wrap(docket, at, random),
+    }
+}
+
+/// Makes the subtree at a place both children of a case on a state: where no fact harms, the docket stays accepted.
+fn wrap(docket: &mut Docket, at: usize, random: &mut Random) {
+    let end = after_subtree(docket, at);
+    let subtree = docket.nodes[at..end].to_vec();
+    if docket.nodes.len() + subtree.len() < 2048 {
+        docket.nodes.splice(at..at, subtree);
+        docket
+            .nodes
+            .insert(at, node(4, random.below(3), random.below(docket.states.len())));
+    }
+}
+
+fn damage_node(docket: &mut Docket, random: &mut Random) {
+    let count = docket.nodes.len();
+    if count == 0 {
+        return;
+    }
+    let (states, rules, leaves) = (docket.states.len(), docket.rules.len(), docket.leaves.len());
+    let node = &mut docket.nodes[random.below(count)];
+    match random.below(6) {
+        0 => node.kind = random.below(8) as u8,
+        1 => node.party = random.below(3),
+        2 => node.party = *random.pick(&[0, 3, 255]),
+        3 => node.argument = random.below(1 + states.max(rules).max(leaves)),
+        4 => node.set[random.below(states)] ^= true,
+        _ => node.set[random.below(64)] ^= true,
+    }
+}
+
+/// Changes bytes with no regard to records; the header's length follows a new length in half of the cases.
+fn damage_bytes(bytes: &mut Vec<u8>, random: &mut Random) {
+    let len = bytes.len();
+    match random.below(6) {
+        0 => bytes.truncate(random.below(len)),
+        1 => bytes.extend(std::iter::repeat_n(random.word() as u8, 1 + random.below(30))),
+        2 if len >= 24 => damage_header(bytes, random),
+        3 if len >= 24 => damage_header(bytes, random),
+        _ => {
+            for _ in 0..1 + random.below(3) {
+                let at = random.below(len);
+                bytes[at] = if random.chance(1, 2) {
+                    bytes[at] ^ (1 << random.below(8))
+                } else {
+                    random.word() as u8
+                };
+            }
+        }
+    }
+    if bytes.len() != len && bytes.len() >= 24 && random.chance(1, 2) {
+        let total = (bytes.len() as u16).to_le_bytes();
+        bytes[22..24].copy_from_slice(&total);
+    }
+}
+
+fn damage_header(bytes: &mut [u8], random: &mut Random) {
+    let field = random.below(11);
+    let old = u16::from_le_bytes([bytes[2 * field], bytes[2 * field + 1]]);
+    let edges = [0, 1, 2, 16, 17, 64, 65, 128, 129, 256, 257, 2048, 2049, 65_535];
+    let new = match random.below(3) {
+        0 => old.wrapping_add(1),
+        1 => old.wrapping_sub(1),
+        _ => *random.pick(&edges),
+    };
+    bytes[2 * field..2 * field + 2].copy_from_slice(&new.to_le_bytes());
+}
+
+/// Random bytes, with a header that begins like a docket's in half of the cases.
+pub fn noise(random: &mut Random) -> Vec<u8> {
+    let len = random.below(160);
+    let mut bytes: Vec<u8> = (0..len).map(|_| random.word() as u8).collect();
+    if len >= 24 && random.chance(1, 2) {
+        bytes[..2].copy_from_slice(&[1, 0]);
+        bytes[22..24].copy_from_slice(&(len as u16).to_le_bytes());
+    }
+    bytes
+}

@@ -1,0 +1,359 @@
+//! Runs the samples and the corpus, and compares the proved implementation, through C and through its program, with the
+//! second one on random inputs.
+//!
+//!     compare                  the gate's numbers of inputs, from a fixed seed
+//!     compare long SEED        twenty times as many, from another seed
+//!
+//! The last line is `N passed, 0 failed`; a difference is printed with the docket in hexadecimal and both answers.
+
+use std::io::Write;
+use std::path::{Path, PathBuf};
+use std::process::{Command, Stdio};
+use tests::calls::{self, check_code, Call, UNTOUCHED};
+use tests::random::Random;
+use tests::second::{self, Docket};
+use tests::tally::Tally;
+use tests::{damage, make, native, prover, samples};
+
+const THREADS: u64 = 2;
+const DOCKETS: u64 = 400_000;
+const LISTS: u64 = 100_000;
+const LINES: u64 = 4_000;
+
+struct Results {
+    passed: u64,
+    failed: u64,
+}
+
+impl Results {
+    fn expect(&mut self, name: &str, problem: Option<String>) {
+        match problem {
+            None => self.passed += 1,
+            Some(text) => {
+                self.failed += 1;
+                println!("FAILED {name}: {text}");
+            }
+        }
+    }
+}
+
+fn main() {
+    let arguments: Vec<String> = std::env::args().skip(1).collect();
+    let (times, seed) = match arguments.iter().map(String::as_str).collect::<Vec<_>>()[..] {
+        [] => (1, 20_170_425),
+        ["long", seed] => (20, seed.parse().expect("SEED is a number")),
+        _ => panic!("usage: compare [long SEED]"),
+    };
+    let mut results = Results { passed: 0, failed: 0 };
+    run_samples(&mut results);
+    let corpus = run_corpus(&mut results);
+    let pool = Pool::new(seed, corpus);
+    println!(
+        "{} accepted dockets to begin with, of them {} large",
+        pool.small.len() + pool.large.len(),
+        pool.large.len()
+    );
+    let tally = compare_all(&pool, seed, times);
+    report(&tally);
+    results.expect("both implementations say the same", differences(&tally));
+    let missing = tally.not_reached();
+    results.expect(
+        "the inputs reach every test",
+        (!missing.is_empty()).then(|| missing.join("; ")),
+    );
+    println!("{} passed, {} failed", results.passed, results.failed);
+    std::process::exit(i32::from(results.failed > 0));
+}
+
+fn report(tally: &Tally) {
+    let Tally {
+        dockets,
+        pass_shape,
+        accepted,
+        calls,
+        meetings,
+        lines,
+        ..
+    } = tally;
+    println!("{dockets} dockets compared, {pass_shape} pass tests 1 to 8, {accepted} accepted; {lines} printed lines");
+    println!("{calls} machine calls compared, {meetings} meetings in them");
+    for (number, places) in &tally.places {
+        let shown: Vec<String> = places.iter().take(8).map(u32::to_string).collect();
+        println!("refusal {number} at {} places: {} ..", places.len(), shown.join(" "));
+    }
+    println!("nodes of kinds 0 to 6 in accepted dockets: {:?}", tally.kinds);
+}
+
+fn differences(tally: &Tally) -> Option<String> {
+    let shown: Vec<String> = tally.differences.iter().take(5).cloned().collect();
+    (!shown.is_empty()).then(|| format!("{} differences\n{}", tally.differences.len(), shown.join("\n")))
+}
+
+// ---- Samples and corpus
+
+fn run_samples(results: &mut Results) {
+    for (name, docket, line) in samples::published().into_iter().chain(samples::edges()) {
+        results.expect(name, line_problem(&docket, line));
+    }
+    for sample in samples::calls() {
+        results.expect(sample.name, call_problem(&sample));
+    }
+}
+
+/// What is wrong with what the two implementations and the program say of a docket.
+fn line_problem(docket: &[u8], line: &str) -> Option<String> {
+    let (second, printed) = (second::line(docket), printed_line(docket));
+    let (native, code) = (native::check(docket), check_code(docket));
+    let good = second.trim_end() == line && printed == second && native == code;
+    (!good).then(|| format!("expected {line}, second {second:?}, printed {printed:?}, codes {native} and {code}"))
+}
+
+fn call_problem(sample: &samples::CallSample) -> Option<String> {
+    for say in [native::say, calls::say] {
+        let mut counts = sample.counts.clone();
+        let said = say(&sample.docket, &mut counts, sample.call);
+        let answers = said
+            .answers
+            .iter()
+            .copied()
+            .filter(|&answer| answer != UNTOUCHED)
+            .collect();
+        let heard = said
+            .refusal()
+            .map_or(Ok(answers), |refusal| Err((refusal.number, refusal.place)));
+        if heard != sample.said || counts != sample.after {
+            return Some(format!(
+                "expected {:?} and {:?}, got {heard:?} and {counts:?}",
+                sample.said, sample.after
+            ));
+        }
+    }
+    None
+}
+
+/// The line that the program prints for a docket on standard input.
+fn printed_line(docket: &[u8]) -> String {
+    let program = Path::new(env!("CARGO_MANIFEST_DIR")).join("../target/bin/docket");
+    let mut child = Command::new(&program)
+        .stdin(Stdio::piped())
+        .stdout(Stdio::piped())
+        .spawn()
+        .unwrap_or_else(|error| panic!("{}: {error}", program.display()));
+    // The program may end before it has read all of a file that is too long.
+    let _ = child.stdin.take().map(|mut input| input.write_all(docket));
+    let output = child.wait_with_output().expect("the program's output");
+    String::from_utf8_lossy(&output.stdout).into_owned()
+}
+
+/// Runs the corpus; hands back its accepted dockets.
+fn run_corpus(results: &mut Results) -> Vec<Docket> {
+    let folder = Path::new(env!("CARGO_MANIFEST_DIR")).join("corpus");
+    let entries = std::fs::read_dir(&folder).expect("the corpus");
+    let mut files: Vec<PathBuf> = entries
+        .map(|entry| entry.expect("a file of the corpus").path())
+        .collect();
+    files.retain(|path| path.extension().is_some_and(|ending| ending == "docket"));
+    files.sort();
+    let mut accepted = vec![];
+    for path in files {
+        let docket = std::fs::read(&path).expect("a docket of the corpus");
+        let line = std::fs::read_to_string(path.with_extension("expect")).expect("its line");
+        results.expect(&path.to_string_lossy(), line_problem(&docket, line.trim_end()));
+        if second::check(&docket).is_ok() {
+            accepted.extend(second::parse(&docket));
+        }
+    }
+    accepted
+}
+
+// ---- Random inputs
+
+/// Accepted dockets. A large one is drawn seldom, since its check takes as long as that of a thousand small ones.
+struct Pool {
+    small: Vec<Docket>,
+    large: Vec<Docket>,
+}
+
+impl Pool {
+    fn new(seed: u64, corpus: Vec<Docket>) -> Pool {
+        let mut random = Random::new(seed);
+        let mut all = corpus;
+        all.extend([
+            make::broadcast(),
+            make::largest(),
+            make::still(2),
+            make::still(64),
+            make::deep(1),
+            make::deep(40),
+        ]);
+        all.extend((0..40).filter_map(|_| prover::prove(make::majority(), &mut random)));
+        for states in 2..=60 {
+            all.push(make::relay(states, 5 + states * states * 2043 / 3600));
+        }
+        for states in 2..=22 {
+            let verdicts: Vec<u8> = (0..states).map(|_| random.below(2) as u8).collect();
+            all.push(make::maximum(&verdicts));
+        }
+        for layers in 1..=16 {
+            all.push(make::layered(
+                2 + layers,
+                layers * (layers + 1) / 2,
+                layers,
+                6 + layers * layers,
+                layers,
+            ));
+        }
+        all.extend(
+            (0..10_000)
+                .filter_map(|_| prover::random_docket(&mut random))
+                .filter(|docket| docket.nodes.len() > 2),
+        );
+        let (large, small) = all.into_iter().partition(|docket: &Docket| docket.nodes.len() > 300);
+        Pool { small, large }
+    }
+
+    fn draw(&self, random: &mut Random) -> &Docket {
+        let large = random.chance(1, 200);
+        random.pick(if large { &self.large } else { &self.small })
+    }
+
+    /// A docket's bytes: as they are, written in another way, damaged, or noise.
+    fn input(&self, random: &mut Random) -> Vec<u8> {
+        let docket = self.draw(random);
+        match random.below(12) {
+            0 => docket.bytes(),
+            1 | 2 => damage::rewritten(docket, random).bytes(),
+            3 => damage::noise(random),
+            4 | 5 => damage::damaged(&damage::rewritten(docket, random), random),
+            _ => damage::damaged(docket, random),
+        }
+    }
+}
+
+fn compare_all(pool: &Pool, seed: u64, times: u64) -> Tally {
+    let mut tally = Tally::default();
+    std::thread::scope(|scope| {
+        let threads: Vec<_> = (0..THREADS)
+            .map(|thread| scope.spawn(move || compare_some(pool, Random::new(seed + 1 + thread), times)))
+            .collect();
+        for thread in threads {
+            tally.merge(thread.join().expect("a thread of the comparison"));
+        }
+    });
+    tally
+}
+
+fn compare_some(pool: &Pool, mut random: Random, times: u64) -> Tally {
+    let mut tally = Tally::default();
+    for i in 0..DOCKETS * times {
+        let docket = pool.input(&mut random);
+        compare_check(&mut tally, &docket);
+        if i % (DOCKETS / LINES) == 0 {
+            compare_line(&mut tally, &docket);
+        }
+    }
+    for _ in 0..LISTS * times {
+        compare_list(&mut tally, pool, &mut random);
+    }
+    tally
+}
+
+fn compare_check(tally: &mut Tally, docket: &[u8]) {
+    let before = docket.to_vec();
+    let (native, code) = (native::check(docket), check_code(docket));
+    if native != code || before != docket {
+        tally.differ(docket, format!("check: {native}, second implementation: {code}"));
+    }
+    tally.count_docket(docket, native);
+}
+
+fn compare_line(tally: &mut Tally, docket: &[u8]) {
+    let (printed, line) = (printed_line(docket), second::line(docket));
+    if printed != line {
+        tally.differ(docket, format!("printed: {printed:?}, second implementation: {line:?}"));
+    }
+    tally.lines += 1;
+}
+
+/// A list of calls on one group: each is lent the counts that the one before left.
+fn compare_list(tally: &mut Tally, pool: &Pool, random: &mut Random) {
+    let docket = match random.below(8) {
+        0 => pool.input(random),
+        1 | 2 => damage::rewritten(pool.draw(random), random).bytes(),
+        _ => pool.draw(random).bytes(),
+    };
+    let parsed = second::parse(&docket).ok();
+    let states = parsed.as_ref().map_or(random.below(66), |docket| docket.states.len());
+    let rules = parsed.as_ref().map_or(0, |docket| docket.rules.len());
+    let mut counts = random_counts(parsed.as_ref(), states, random);
+    for _ in 0..1 + random.below(10) {
+        let call = random_call(rules, random);
+        let mut others = counts.clone();
+        let before = docket.clone();
+        let (native, second) = (
+            native::say(&docket, &mut counts, call),
+            calls::say(&docket, &mut others, call),
+        );
+        if native != second || counts != others || before != docket {
+            let what = format!("{call:?}: {native:?} and {counts:?}, second implementation: {second:?} and {others:?}");
+            tally.differ(&docket, what);
+            return;
+        }
+        tally.calls += 1;
+        native
+            .refusal()
+            .into_iter()
+            .for_each(|refusal| tally.count_refusal(refusal));
+        tally.meetings += meetings(call, native.answers[0]);
+    }
+}
+
+fn meetings(call: Call, answer: u64) -> u64 {
+    match call {
+        Call::Run(_) if answer != UNTOUCHED => answer,
+        _ => 0,
+    }
+}
+
+/// Counts in input states, or in any; now and then of a wrong length or of a size at a limit or past it.
+fn random_counts(docket: Option<&Docket>, states: usize, random: &mut Random) -> Vec<u32> {
+    let inputs_only = random.chance(2, 3);
+    let most = *random.pick(&[2, 3, 6, 30, 300]);
+    let input = |i: usize| docket.is_none_or(|docket| docket.states[i].input);
+    let mut counts: Vec<u32> = (0..states)
+        .map(|i| {
+            if inputs_only && !input(i) {
+                0
+            } else {
+                random.below(most) as u32
+            }
+        })
+        .collect();
+    match random.below(16) {
+        0 => counts.truncate(random.below(states + 1)),
+        1 => counts.push(random.below(3) as u32),
+        2 if states > 0 => counts[random.below(states)] = *random.pick(&[999_999, 1_000_000, 1_000_001, u32::MAX]),
+        3 => counts.fill(0),
+        4 if states > 0 => {
+            counts.fill(0);
+            counts[random.below(states)] = 1_000_000;
+        }
+        _ => {}
+    }
+    counts
+}
+
+fn random_call(rules: usize, random: &mut Random) -> Call {
+    let number = match random.below(10) {
+        0 => *random.pick(&[rules as u32, rules as u32 + 1, 255, 256, 65_536, u32::MAX]),
+        _ => random.below(rules) as u32,
+    };
+    match random.below(12) {
+        0 => Call::StartTest,
+        1 => Call::CanAct(number),
+        2 => Call::IsStandstill,
+        3 => Call::Verdict,
+        4..=8 => Call::Step(number),
+        _ => Call::Run(*random.pick(&[0, 1, 2, 5, 20, 100, 1000])),
+    }
+}

@@ -1,0 +1,211 @@
+//! Families of accepted dockets.
+
+use crate::second::{Docket, Leaf, Node, Rule, State};
+
+/// A node with no set.
+pub fn node(kind: u8, party: usize, argument: usize) -> Node {
+    Node {
+        kind,
+        party,
+        argument,
+        set: [false; 64],
+    }
+}
+
+/// A trap or a siphon.
+pub fn set_node(kind: u8, party: usize, states: std::ops::Range<usize>) -> Node {
+    let set = std::array::from_fn(|state| states.contains(&state));
+    Node {
+        kind,
+        party,
+        argument: 0,
+        set,
+    }
+}
+
+pub fn rule(before: [usize; 2], after: [usize; 2], layer: usize) -> Rule {
+    Rule { before, after, layer }
+}
+
+fn state(verdict: u8, input: bool) -> State {
+    State { verdict, input }
+}
+
+/// Document 01's broadcast: one worker in state 1 draws all others there.
+pub fn broadcast() -> Docket {
+    relay(2, 5)
+}
+
+/// Document 01's majority, with no tree: states A, B, a, b.
+pub fn majority() -> Docket {
+    Docket {
+        states: vec![state(0, true), state(1, true), state(0, false), state(1, false)],
+        rules: vec![
+            rule([0, 1], [2, 3], 0),
+            rule([0, 3], [0, 2], 0),
+            rule([1, 2], [1, 3], 1),
+            rule([2, 3], [3, 3], 1),
+        ],
+        weights: vec![vec![1, 1, 0, 1], vec![0, 0, 1, 0]],
+        nodes: vec![],
+        leaves: vec![],
+    }
+}
+
+/// Two workers meet and both take the greater state; the verdict is that of the greatest state at the start.
+pub fn maximum(verdicts: &[u8]) -> Docket {
+    let k = verdicts.len();
+    let mut rules = vec![];
+    for high in 1..k {
+        for low in 0..high {
+            rules.push(rule([low, high], [high, high], 0));
+        }
+    }
+    let mut docket = Docket {
+        states: verdicts.iter().map(|&verdict| state(verdict, true)).collect(),
+        rules,
+        weights: vec![(0..k as i64).rev().collect()],
+        nodes: vec![],
+        leaves: vec![],
+    };
+    for greatest in (1..k).rev() {
+        docket.nodes.push(node(4, 0, greatest));
+    }
+    for greatest in 0..k {
+        docket.nodes.extend(greatest_present(verdicts, greatest));
+    }
+    docket
+}
+
+/// The branch of the maximum's tree in which all states above `greatest` are absent at the start and it is present.
+fn greatest_present(verdicts: &[u8], greatest: usize) -> Vec<Node> {
+    let k = verdicts.len();
+    let party = if verdicts[greatest] == 1 { 1 } else { 2 };
+    let mut nodes = vec![];
+    if greatest + 1 < k {
+        nodes.push(set_node(6, party, greatest + 1..k));
+    }
+    if greatest == 0 {
+        nodes.push(node(1, party, 0));
+        return nodes;
+    }
+    nodes.extend([
+        node(4, party, greatest),
+        set_node(5, party, greatest..k),
+        node(2, 0, greatest),
+    ]);
+    let others: Vec<usize> = (0..greatest)
+        .filter(|&low| verdicts[low] != verdicts[greatest])
+        .collect();
+    let first_rule = greatest * (greatest - 1) / 2;
+    nodes.extend(others.iter().map(|low| node(3, party, first_rule + low)));
+    nodes.push(node(1, party, 0));
+    nodes.extend(others.iter().map(|_| node(2, party, greatest)));
+    nodes
+}
+
+/// Workers move up one state at each meeting with a worker of the last state, and only state 0 has verdict 0. The tree
+/// has `nodes` nodes, 5 to 2,048; three of four or more are of kinds 1, 5 and 6.
+pub fn relay(states: usize, nodes: usize) -> Docket {
+    let last = states - 1;
+    Docket {
+        states: (0..states)
+            .map(|i| state(u8::from(i > 0), i == 0 || i == last))
+            .collect(),
+        rules: (0..last).map(|i| rule([i, last], pair(i + 1, last), 0)).collect(),
+        weights: vec![(0..states as i64).rev().collect()],
+        nodes: split(nodes, 10, 0, &|n, _| relay_argument(last, n)),
+        leaves: vec![],
+    }
+}
+
+fn pair(a: usize, b: usize) -> [usize; 2] {
+    [a.min(b), a.max(b)]
+}
+
+/// The argument that the relay rests on one verdict, in n nodes, 5 or more: the last siphon is repeated.
+fn relay_argument(last: usize, n: usize) -> Vec<Node> {
+    let mut nodes = vec![node(3, 1, 0), node(1, 1, 0), set_node(5, 1, last..last + 1)];
+    nodes.extend((4..n).map(|_| set_node(6, 2, 1..last + 1)));
+    nodes.push(node(1, 2, 0));
+    nodes
+}
+
+/// A tree of n nodes: cases on whether states are present, down to arguments of at most `most` nodes each. An argument
+/// is given its number of nodes and its place.
+fn split(n: usize, most: usize, place: usize, argument: &dyn Fn(usize, usize) -> Vec<Node>) -> Vec<Node> {
+    if n <= most {
+        return argument(n, place);
+    }
+    let half = (n - 1) / 2;
+    let mut nodes = vec![node(4, place % 3, 1)];
+    nodes.extend(split(half, most, place + 1, argument));
+    nodes.extend(split(n - 1 - half, most, place + 1 + half, argument));
+    nodes
+}
+
+/// Every count at its limit: 64 states, 256 rules, 16 layers, 2,048 nodes, 128 leaves.
+pub fn largest() -> Docket {
+    layered(64, 256, 16, 2048, 128)
+}
+
+/// Many rules in many layers, and a tree of `nodes` nodes, 6 or more, that uses the leaves in turn. Only state 0 is an
+/// input, and no rule takes from it. The rules of low layers have the high numbers, so that the handover test looks at
+/// many rules.
+pub fn layered(states: usize, rules: usize, layers: usize, nodes: usize, leaves: usize) -> Docket {
+    let pairs = (2..states).flat_map(|q| (2..=q).map(move |p| [p, q]));
+    let layer = |r: usize| layers - 1 - r * layers / rules;
+    let weight = |i: usize| (i * 1_000_000 / (states - 1)) as i64;
+    Docket {
+        states: (0..states).map(|i| state(u8::from(i > 0), i == 0)).collect(),
+        rules: pairs
+            .take(rules)
+            .enumerate()
+            .map(|(r, before)| rule(before, [1, 1], layer(r)))
+            .collect(),
+        weights: vec![(0..states).map(weight).collect(); layers],
+        nodes: split(nodes, 12, 0, &|n, place| leaf_argument(states, n, place % leaves)),
+        leaves: (0..leaves).map(|l| one_state_leaf(states, 10_000 - l as i64)).collect(),
+    }
+}
+
+/// State 0 present at end 1 and absent at end 2 is refuted by a leaf, all else by kind 1; in n nodes, 6 or more.
+fn leaf_argument(states: usize, n: usize, leaf: usize) -> Vec<Node> {
+    let mut nodes = vec![node(4, 1, 0), node(1, 1, 0), node(4, 2, 0), node(0, 0, leaf)];
+    nodes.extend((5..n).map(|_| set_node(6, 2, 1..states)));
+    nodes.push(node(1, 2, 0));
+    nodes
+}
+
+/// Workers of state 0 count for end 1 and against end 2.
+fn one_state_leaf(states: usize, weight: i64) -> Leaf {
+    let only_first = |y: i64| (0..states).map(|state| if state == 0 { y } else { 0 }).collect();
+    Leaf {
+        y1: only_first(weight),
+        y2: only_first(-weight),
+    }
+}
+
+/// No rule at all: every group is at a standstill, and all states have verdict 0.
+pub fn still(states: usize) -> Docket {
+    Docket {
+        states: vec![state(0, true); states],
+        rules: vec![],
+        weights: vec![],
+        nodes: vec![node(1, 2, 0)],
+        leaves: vec![],
+    }
+}
+
+/// A tree of the given depth, 1 or more: rule 0 0 to 0 1 is not enabled, again and again.
+pub fn deep(depth: usize) -> Docket {
+    let mut nodes = vec![node(3, 1, 0); depth - 1];
+    nodes.push(node(1, 1, 0));
+    Docket {
+        states: vec![state(1, true), state(1, false)],
+        rules: vec![rule([0, 0], [0, 1], 0)],
+        weights: vec![vec![1, 0]],
+        nodes,
+        leaves: vec![],
+    }
+}

@@ -1,0 +1,66 @@
+//! The functions of `docket.h`, as the static library has them. Nothing is tested before a call.
+
+use crate::calls::{Call, Said, UNTOUCHED};
+
+extern "C" {
+    fn docket_check(docket: *const u8, docket_len: usize) -> u64;
+    fn docket_start_test(docket: *const u8, docket_len: usize, counts: *const u32, counts_len: usize) -> u64;
+    fn docket_can_act(
+        docket: *const u8,
+        docket_len: usize,
+        counts: *const u32,
+        counts_len: usize,
+        rule: u32,
+        answer: *mut u64,
+    ) -> u64;
+    fn docket_is_standstill(
+        docket: *const u8,
+        docket_len: usize,
+        counts: *const u32,
+        counts_len: usize,
+        answer: *mut u64,
+    ) -> u64;
+    fn docket_verdict(
+        docket: *const u8,
+        docket_len: usize,
+        counts: *const u32,
+        counts_len: usize,
+        answer: *mut u64,
+    ) -> u64;
+    fn docket_step(docket: *const u8, docket_len: usize, counts: *mut u32, counts_len: usize, rule: u32) -> u64;
+    fn docket_run(
+        docket: *const u8,
+        docket_len: usize,
+        counts: *mut u32,
+        counts_len: usize,
+        limit: u32,
+        steps: *mut u64,
+        rests: *mut u64,
+    ) -> u64;
+}
+
+/// What docket_check returns: 0, or the number times 65,536 plus the place.
+pub fn check(docket: &[u8]) -> u64 {
+    // SAFETY: the pointer and the length are those of one slice, which the library only reads.
+    unsafe { docket_check(docket.as_ptr(), docket.len()) }
+}
+
+/// What a machine call says; the counts are lent as they are.
+pub fn say(docket: &[u8], counts: &mut [u32], call: Call) -> Said {
+    let (d, n) = (docket.as_ptr(), docket.len());
+    let (c, m) = (counts.as_mut_ptr(), counts.len());
+    let mut answers = [UNTOUCHED; 2];
+    let [first, second] = &mut answers;
+    // SAFETY: each pointer and length are those of one slice, the counts and the answers are writable, and none overlap.
+    let code = unsafe {
+        match call {
+            Call::StartTest => docket_start_test(d, n, c, m),
+            Call::CanAct(rule) => docket_can_act(d, n, c, m, rule, first),
+            Call::IsStandstill => docket_is_standstill(d, n, c, m, first),
+            Call::Verdict => docket_verdict(d, n, c, m, first),
+            Call::Step(rule) => docket_step(d, n, c, m, rule),
+            Call::Run(limit) => docket_run(d, n, c, m, limit, first, second),
+        }
+    };
+    Said { code, answers }
+}

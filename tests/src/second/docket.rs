@@ -1,0 +1,407 @@
+//! The parsed docket, tests 1 to 8, and the check as a whole.
+
+use super::{ladder, tree};
+
+/// What a refused call says.
+#[derive(Clone, Copy, Debug, PartialEq, Eq)]
+pub struct Refusal {
+    pub number: u32,
+    pub place: u32,
+}
+
+/// The figures of an accepted docket: S, R, L, N, W and M.
+#[derive(Clone, Copy, Debug, PartialEq, Eq)]
+pub struct Figures {
+    pub states: u64,
+    pub rules: u64,
+    pub layers: u64,
+    pub nodes: u64,
+    pub spread_sum: u64,
+    pub widest: u64,
+}
+
+/// A state: its verdict, 0 or 1, and whether it is an input state.
+#[derive(Clone, Copy, Debug, PartialEq, Eq)]
+pub struct State {
+    pub verdict: u8,
+    pub input: bool,
+}
+
+/// A rule: the before pair p, q, the after pair p', q', and the layer.
+#[derive(Clone, Copy, Debug, PartialEq, Eq)]
+pub struct Rule {
+    pub before: [usize; 2],
+    pub after: [usize; 2],
+    pub layer: usize,
+}
+
+/// A node of the tree; `set[i]` says that the set names state i.
+#[derive(Clone, Copy, Debug, PartialEq, Eq)]
+pub struct Node {
+    pub kind: u8,
+    pub party: usize,
+    pub argument: usize,
+    pub set: [bool; 64],
+}
+
+/// A leaf's weights for end 1 and for end 2.
+#[derive(Clone, Debug, PartialEq, Eq)]
+pub struct Leaf {
+    pub y1: Vec<i64>,
+    pub y2: Vec<i64>,
+}
+
+/// The five sections of a docket; `weights[l][i]` is the weight of state i in layer l.
+#[derive(Clone, Debug, PartialEq, Eq)]
+pub struct Docket {
+    pub states: Vec<State>,
+    pub rules: Vec<Rule>,
+    pub weights: Vec<Vec<i64>>,
+    pub nodes: Vec<Node>,
+    pub leaves: Vec<Leaf>,
+}
+
+pub(crate) fn refuse<T>(number: u32, place: usize) -> Result<T, Refusal> {
+    let place = place as u32;
+    Err(Refusal { number, place })
+}
+
+/// The weights of a pair together.
+pub(crate) fn together(weights: &[i64], pair: [usize; 2]) -> i64 {
+    weights[pair[0]] + weights[pair[1]]
+}
+
+/// Tests 1 to 13.
+pub fn check(docket: &[u8]) -> Result<Figures, Refusal> {
+    let docket = parse(docket)?;
+    ladder::lowering_test(&docket)?;
+    ladder::handover_test(&docket)?;
+    tree::leaf_weight_test(&docket)?;
+    tree::tree_test(&docket)?;
+    Ok(Figures {
+        states: docket.states.len() as u64,
+        rules: docket.rules.len() as u64,
+        layers: docket.weights.len() as u64,
+        nodes: docket.nodes.len() as u64,
+        spread_sum: ladder::spread_sum(&docket),
+        widest: tree::widest(&docket),
+    })
+}
+
+/// The line that the program prints for these bytes.
+pub fn line(docket: &[u8]) -> String {
+    let numbers = match check(docket) {
+        Ok(f) => [f.states, f.rules, f.layers, f.nodes, f.spread_sum, f.widest],
+        Err(refusal) => return format!("refused {} {}\n", refusal.number, refusal.place),
+    };
+    format!("accepted {}\n", numbers.map(|number| number.to_string()).join(" "))
+}
+
+/// Tests 1 to 8. Nodes and leaves are read and not tested.
+pub fn parse(docket: &[u8]) -> Result<Docket, Refusal> {
+    let [states, rules, layers, nodes, leaves] = sections(docket)?;
+    state_test(states)?;
+    let parsed = Docket {
+        states: states.iter().map(read_state).collect(),
+        rules: rules.chunks(5).map(read_rule).collect(),
+        weights: layers.chunks(4 * states.len()).map(read_layer).collect(),
+        nodes: nodes.chunks(12).map(read_node).collect(),
+        leaves: leaves.chunks(4 * states.len()).map(read_leaf).collect(),
+    };
+    rule_test(&parsed)?;
+    same_pair_test(&parsed)?;
+    layer_test(&parsed)?;
+    Ok(parsed)
+}
+
+/// Tests 1 to 4; hands back the bytes of the five sections.
+fn sections(docket: &[u8]) -> Result<[&[u8]; 5], Refusal> {
+    if docket.len() < 24 || u16_at(docket, 22) != docket.len() {
+        return refuse(1, 0);
+    }
+    if u16_at(docket, 0) != 1 {
+        return refuse(2, 0);
+    }
+    let counts: [usize; 5] = std::array::from_fn(|i| u16_at(docket, 2 + 2 * i));
+    let [s, r, l, n, k] = counts;
+    let limits = [2..=64, 0..=256, 0..=16, 1..=2048, 0..=128];
+    for (place, limit) in limits.iter().enumerate() {
+        if !limit.contains(&counts[place]) || (place == 2 && (l == 0) != (r == 0)) {
+            return refuse(3, place);
+        }
+    }
+    let mut ends = [24; 6];
+    for (i, length) in [s, 5 * r, 4 * s * l, 12 * n, 4 * s * k].iter().enumerate() {
+        ends[i + 1] = ends[i] + length;
+    }
+    if let Some(place) = (0..6).find(|&i| u16_at(docket, 12 + 2 * i) != ends[i]) {
+        return refuse(4, place);
+    }
+    Ok(std::array::from_fn(|i| &docket[ends[i]..ends[i + 1]]))
+}
+
+/// Test 5.
+fn state_test(states: &[u8]) -> Result<(), Refusal> {
+    if let Some(place) = states.iter().position(|&byte| byte > 3) {
+        return refuse(5, place);
+    }
+    if !states.iter().any(|byte| read_state(byte).input) {
+        return refuse(5, states.len());
+    }
+    Ok(())
+}
+
+/// Test 6.
+fn rule_test(docket: &Docket) -> Result<(), Refusal> {
+    for (place, rule) in docket.rules.iter().enumerate() {
+        let ([p, q], [p1, q1]) = (rule.before, rule.after);
+        let state_too_large = [p, q, p1, q1].iter().any(|&state| state >= docket.states.len());
+        let pairs_wrong = p > q || p1 > q1 || rule.before == rule.after;
+        if state_too_large || pairs_wrong || rule.layer >= docket.weights.len() {
+            return refuse(6, place);
+        }
+    }
+    Ok(())
+}
+
+/// Test 7.
+fn same_pair_test(docket: &Docket) -> Result<(), Refusal> {
+    for later in 0..docket.rules.len() {
+        for earlier in 0..later {
+            if docket.rules[earlier].before == docket.rules[later].before {
+                return refuse(7, later);
+            }
+        }
+    }
+    Ok(())
+}
+
+/// Test 8.
+fn layer_test(docket: &Docket) -> Result<(), Refusal> {
+    for (place, weights) in docket.weights.iter().enumerate() {
+        let no_rule = !docket.rules.iter().any(|rule| rule.layer == place);
+        if no_rule || weights.iter().any(|&weight| weight > 1_000_000) {
+            return refuse(8, place);
+        }
+    }
+    Ok(())
+}
+
+fn u16_at(bytes: &[u8], at: usize) -> usize {
+    usize::from(u16::from_le_bytes([bytes[at], bytes[at + 1]]))
+}
+
+fn read_state(byte: &u8) -> State {
+    let (verdict, input) = (byte & 1, byte & 2 != 0);
+    State { verdict, input }
+}
+
+fn read_rule(record: &[u8]) -> Rule {
+    let [p, q, p1, q1, layer]: [usize; 5] = std::array::from_fn(|i| usize::from(record[i]));
+    let (before, after) = ([p, q], [p1, q1]);
+    Rule { before, after, layer }
+}
+
+fn read_layer(record: &[u8]) -> Vec<i64> {
+    let numbers = record.chunks(4).map(|b| u32::from_le_bytes([b[0], b[1], b[2], b[3]]));
+    numbers.map(i64::from).collect()
+}
+
+fn read_node(record: &[u8]) -> Node {
+    let set = std::array::from_fn(|state| (record[4 + state / 8] >> (state % 8)) & 1 == 1);
+    Node {
+        kind: record[0],
+        party: usize::from(record[1]),
+        argument: u16_at(record, 2),
+        set,
+    }
+}
+
+fn read_leaf(record: &[u8]) -> Leaf {
+    let numbers = record.chunks(2).map(|b| i16::from_le_bytes([b[0], b[1]]));
+    let mut y1: Vec<i64> = numbers.map(i64::from).collect();
+    let y2 = y1.split_off(y1.len() / 2);
+    Leaf { y1, y2 }
+}
+
+impl Docket {
+    /// The file of this docket. Counts and offsets follow from the vectors. Nothing is tested, and each number is cut
+    /// to its width in the file.
+    pub fn bytes(&self) -> Vec<u8> {
+        let states = self.states.iter();
+        let weights = self.weights.iter().flatten();
+        let leaf_weights = self.leaves.iter().flat_map(|leaf| leaf.y1.iter().chain(&leaf.y2));
+        let sections: [Vec<u8>; 5] = [
+            states.map(|state| state.verdict | u8::from(state.input) << 1).collect(),
+            self.rules.iter().flat_map(rule_bytes).collect(),
+            weights.flat_map(|&weight| (weight as u32).to_le_bytes()).collect(),
+            self.nodes.iter().flat_map(node_bytes).collect(),
+            leaf_weights.flat_map(|&weight| (weight as i16).to_le_bytes()).collect(),
+        ];
+        let mut header = vec![1, self.states.len(), self.rules.len(), self.weights.len()];
+        header.extend([self.nodes.len(), self.leaves.len(), 24]);
+        let mut end = 24;
+        for section in &sections {
+            end += section.len();
+            header.push(end);
+        }
+        let header = header.iter().flat_map(|&number| (number as u16).to_le_bytes());
+        header.chain(sections.concat()).collect()
+    }
+}
+
+fn rule_bytes(rule: &Rule) -> [u8; 5] {
+    let ([p, q], [p1, q1]) = (rule.before, rule.after);
+    [p, q, p1, q1, rule.layer].map(|number| number as u8)
+}
+
+fn node_bytes(node: &Node) -> [u8; 12] {
+    let [low, high] = (node.argument as u16).to_le_bytes();
+    let mut record = [node.kind, node.party as u8, low, high, 0, 0, 0, 0, 0, 0, 0, 0];
+    for state in 0..64 {
+        record[4 + state / 8] |= u8::from(node.set[state]) << (state % 8);
+    }
+    record
+}
+
+/// The sample dockets, in the notation of the document.
+#[cfg(test)]
+pub(crate) mod samples {
+    use super::*;
+
+    pub const TREE: &str = "3 1 0 0; 1 1 0 0; 5 1 0 2; 6 2 0 2; 1 2 0 0";
+
+    /// The records of a text, parted by semicolons.
+    fn rows(text: &str) -> Vec<Vec<u64>> {
+        let row = |row: &str| row.split_whitespace().map(|number| number.parse().unwrap()).collect();
+        text.split_terminator(';').map(row).collect()
+    }
+
+    fn node(row: &[u64]) -> Node {
+        let set = std::array::from_fn(|state| row[3] >> state & 1 == 1);
+        Node {
+            kind: row[0] as u8,
+            party: row[1] as usize,
+            argument: row[2] as usize,
+            set,
+        }
+    }
+
+    /// A docket with no leaf from the records of its states, rules, layers and nodes.
+    pub fn docket(states: &str, rules: &str, layers: &str, nodes: &str) -> Docket {
+        let bytes = |row: &Vec<u64>| row.iter().map(|&number| number as u8).collect::<Vec<u8>>();
+        Docket {
+            states: rows(states)
+                .iter()
+                .flat_map(bytes)
+                .map(|byte| read_state(&byte))
+                .collect(),
+            rules: rows(rules).iter().map(|row| read_rule(&bytes(row))).collect(),
+            weights: rows(layers)
+                .iter()
+                .map(|row| row.iter().map(|&weight| weight as i64).collect())
+                .collect(),
+            nodes: rows(nodes).iter().map(|row| node(row)).collect(),
+            leaves: vec![],
+        }
+    }
+
+    /// The broadcast docket with this tree.
+    pub fn broadcast(nodes: &str) -> Docket {
+        docket("2 3", "0 1 1 1 0", "1 0", nodes)
+    }
+
+    /// Majority with a tree that is refused.
+    pub fn majority() -> Docket {
+        let rules = "0 1 2 3 0; 0 3 0 2 0; 1 2 1 3 1; 2 3 3 3 1";
+        docket("2 3 0 1", rules, "1 1 0 1; 0 0 1 0", "1 1 0 0")
+    }
+
+    /// Majority with layers and weights exchanged.
+    pub fn exchanged() -> Docket {
+        let rules = "0 1 2 3 1; 0 3 0 2 1; 1 2 1 3 0; 2 3 3 3 0";
+        docket("2 3 0 1", rules, "0 0 1 0; 1 1 0 1", "1 1 0 0")
+    }
+}
+
+#[cfg(test)]
+mod tests {
+    use super::samples::*;
+    use super::*;
+
+    #[test]
+    fn p1_accepted_and_p2_cut() {
+        let bytes = broadcast(TREE).bytes();
+        let header: Vec<usize> = (0..12).map(|i| u16_at(&bytes, 2 * i)).collect();
+        assert_eq!(header, [1, 2, 1, 1, 5, 0, 24, 26, 31, 39, 99, 99]);
+        assert_eq!(bytes[24..40], [2, 3, 0, 1, 1, 1, 0, 1, 0, 0, 0, 0, 0, 0, 0, 3]);
+        assert_eq!(bytes[63..75], [5, 1, 0, 0, 2, 0, 0, 0, 0, 0, 0, 0]);
+        assert_eq!(line(&bytes), "accepted 2 1 1 5 1 1\n");
+        assert_eq!(line(&bytes[..98]), "refused 1 0\n");
+        assert_eq!(line(&bytes[..23]), "refused 1 0\n");
+        assert_eq!(line(&[0; 65_536]), "refused 1 0\n");
+    }
+
+    /// One byte of the broadcast docket is changed.
+    #[test]
+    fn single_bytes() {
+        let counts = [
+            (2, 1, 3, 0),
+            (2, 65, 3, 0),
+            (5, 1, 3, 1),
+            (4, 0, 3, 2),
+            (6, 17, 3, 2),
+            (8, 0, 3, 3),
+        ];
+        let offsets = [
+            (12, 0, 4, 0),
+            (14, 0, 4, 1),
+            (16, 0, 4, 2),
+            (18, 0, 4, 3),
+            (20, 0, 4, 4),
+            (10, 1, 4, 5),
+        ];
+        let rules = [
+            (26, 2, 6, 0),
+            (27, 2, 6, 0),
+            (28, 2, 6, 0),
+            (29, 0, 6, 0),
+            (28, 0, 6, 0),
+            (30, 1, 6, 0),
+        ];
+        let others = [
+            (0, 2, 2, 0),
+            (1, 1, 2, 0),
+            (10, 129, 3, 4),
+            (24, 7, 5, 0),
+            (25, 7, 5, 1),
+            (34, 1, 8, 0),
+        ];
+        for (at, byte, number, place) in [counts, offsets, rules, others].concat() {
+            let mut bytes = broadcast(TREE).bytes();
+            bytes[at] = byte;
+            assert_eq!(check(&bytes), refuse(number, place), "byte {at}");
+        }
+    }
+
+    #[test]
+    fn whole_sections() {
+        let said = |states, rules, layers| line(&docket(states, rules, layers, TREE).bytes());
+        assert_eq!(said("0 1", "0 1 1 1 0", "1 0"), "refused 5 2\n");
+        assert_eq!(said("2 3", "0 1 1 1 0; 0 1 0 0 0", "1 0"), "refused 7 1\n");
+        assert_eq!(said("2 3", "0 1 1 1 0", "1000000 0"), "accepted 2 1 1 5 1000000 1\n");
+        assert_eq!(said("2 3", "0 1 1 1 0", "1000001 0"), "refused 8 0\n");
+        assert_eq!(said("2 3", "0 1 1 1 0", "1 0; 1 0"), "refused 8 1\n");
+        assert_eq!(said("2 3", "", "1 0"), "refused 3 2\n");
+    }
+
+    #[test]
+    fn bytes_is_the_inverse_of_parse() {
+        let mut docket = majority();
+        docket.nodes[0].argument = 65_535;
+        docket.nodes[0].set[63] = true;
+        let (y1, y2) = (vec![1, -1, 32_767, -32_768], vec![-1, 1, 0, 0]);
+        docket.leaves = vec![Leaf { y1, y2 }];
+        assert_eq!(parse(&docket.bytes()), Ok(docket));
+    }
+}

@@ -1,0 +1,208 @@
+//! The machine calls. Each makes tests 1 to 8 on the docket, then 20 and 21 on the counts.
+
+use super::docket::{parse, refuse, Docket, Refusal, Rule};
+
+/// The verdict of a group.
+#[derive(Clone, Copy, Debug, PartialEq, Eq)]
+pub enum Verdict {
+    Zero,
+    One,
+    Mixed,
+}
+
+/// The steps of a run, and whether it rests.
+#[derive(Clone, Copy, Debug, PartialEq, Eq)]
+pub struct Ran {
+    pub steps: u64,
+    pub rests: bool,
+}
+
+/// Whether the group may be a start: every worker is in an input state.
+pub fn start_test(docket: &[u8], counts: &[u32]) -> Result<(), Refusal> {
+    let docket = docket_for(docket, counts)?;
+    for (place, state) in docket.states.iter().enumerate() {
+        if counts[place] > 0 && !state.input {
+            return refuse(22, place);
+        }
+    }
+    Ok(())
+}
+
+/// Whether the rule of this number can act.
+pub fn can_act(docket: &[u8], counts: &[u32], rule: u32) -> Result<bool, Refusal> {
+    let docket = docket_for(docket, counts)?;
+    Ok(enabled(numbered(&docket, rule)?, counts))
+}
+
+/// Whether no rule can act.
+pub fn is_standstill(docket: &[u8], counts: &[u32]) -> Result<bool, Refusal> {
+    let docket = docket_for(docket, counts)?;
+    Ok(!docket.rules.iter().any(|rule| enabled(rule, counts)))
+}
+
+/// 0 or 1 if all occupied states have that verdict, otherwise mixed.
+pub fn verdict(docket: &[u8], counts: &[u32]) -> Result<Verdict, Refusal> {
+    let docket = docket_for(docket, counts)?;
+    let occupied = |verdict: u8| (0..counts.len()).any(|i| counts[i] > 0 && docket.states[i].verdict == verdict);
+    Ok(match (occupied(0), occupied(1)) {
+        (_, false) => Verdict::Zero,
+        (false, true) => Verdict::One,
+        (true, true) => Verdict::Mixed,
+    })
+}
+
+/// The rule of this number acts.
+pub fn step(docket: &[u8], counts: &mut [u32], rule: u32) -> Result<(), Refusal> {
+    let docket = docket_for(docket, counts)?;
+    let meeting = numbered(&docket, rule)?;
+    if !enabled(meeting, counts) {
+        return refuse(24, rule as usize);
+    }
+    act(meeting, counts);
+    Ok(())
+}
+
+/// Steps by the lowest rule number of the lowest layer that can act, up to the limit or to rest.
+pub fn run(docket: &[u8], counts: &mut [u32], limit: u32) -> Result<Ran, Refusal> {
+    let docket = docket_for(docket, counts)?;
+    let mut steps = 0;
+    while let Some(rule) = next_rule(&docket, counts) {
+        if steps == u64::from(limit) {
+            return Ok(Ran { steps, rests: false });
+        }
+        act(rule, counts);
+        steps += 1;
+    }
+    Ok(Ran { steps, rests: true })
+}
+
+/// Tests 1 to 8, 20 and 21.
+fn docket_for(docket: &[u8], counts: &[u32]) -> Result<Docket, Refusal> {
+    let docket = parse(docket)?;
+    if counts.len() != docket.states.len() {
+        return refuse(20, 0);
+    }
+    let size: u64 = counts.iter().map(|&count| u64::from(count)).sum();
+    if !(2..=1_000_000).contains(&size) {
+        return refuse(21, 0);
+    }
+    Ok(docket)
+}
+
+/// Test 23.
+fn numbered(docket: &Docket, rule: u32) -> Result<&Rule, Refusal> {
+    match docket.rules.get(rule as usize) {
+        Some(found) => Ok(found),
+        None => refuse(23, rule as usize),
+    }
+}
+
+/// Whether p and q each hold a worker or, where p = q, at least two.
+fn enabled(rule: &Rule, counts: &[u32]) -> bool {
+    let [p, q] = rule.before;
+    if p == q {
+        counts[p] >= 2
+    } else {
+        counts[p] >= 1 && counts[q] >= 1
+    }
+}
+
+/// Removes one worker from p and one from q, then adds one to p' and one to q'.
+fn act(rule: &Rule, counts: &mut [u32]) {
+    for state in rule.before {
+        counts[state] -= 1;
+    }
+    for state in rule.after {
+        counts[state] += 1;
+    }
+}
+
+/// The lowest rule number of the lowest layer that can act, by one pass over the rules.
+fn next_rule<'a>(docket: &'a Docket, counts: &[u32]) -> Option<&'a Rule> {
+    let mut lowest: Option<&Rule> = None;
+    for rule in &docket.rules {
+        if enabled(rule, counts) && lowest.is_none_or(|found| rule.layer < found.layer) {
+            lowest = Some(rule);
+        }
+    }
+    lowest
+}
+
+#[cfg(test)]
+mod tests {
+    use super::*;
+    use crate::second::docket::samples::*;
+
+    /// A run from these counts with this limit ends in these counts after these steps, at rest or not.
+    fn runs(docket: &Docket, start: &[u32], limit: u32, end: &[u32], steps: u64, rests: bool) {
+        let mut counts = start.to_vec();
+        let said = run(&docket.bytes(), &mut counts, limit);
+        assert_eq!((said, counts.as_slice()), (Ok(Ran { steps, rests }), end));
+    }
+
+    /// In P9, layer 1 is quiet at first and acts after layer 0.
+    #[test]
+    fn p8_and_p9() {
+        let bytes = majority().bytes();
+        runs(&majority(), &[2, 1, 0, 0], u32::MAX, &[1, 0, 2, 0], 2, true);
+        assert_eq!(verdict(&bytes, &[1, 0, 2, 0]), Ok(Verdict::Zero));
+        runs(&majority(), &[1, 1, 0, 0], u32::MAX, &[0, 0, 0, 2], 2, true);
+        assert_eq!(verdict(&bytes, &[0, 0, 0, 2]), Ok(Verdict::One));
+        assert_eq!(verdict(&bytes, &[1, 1, 0, 0]), Ok(Verdict::Mixed));
+        assert_eq!(is_standstill(&bytes, &[0, 0, 0, 2]), Ok(true));
+        assert_eq!(is_standstill(&bytes, &[0, 0, 1, 1]), Ok(false));
+    }
+
+    /// A lower layer that was quiet acts once a higher one has acted.
+    #[test]
+    fn a_run_looks_at_every_layer_again() {
+        runs(&exchanged(), &[1, 1, 0, 0], 1, &[0, 0, 1, 1], 1, false);
+        runs(&exchanged(), &[1, 1, 0, 0], 2, &[0, 0, 0, 2], 2, true);
+    }
+
+    /// The layer decides before the rule number; within a layer the lower number is used.
+    #[test]
+    fn a_run_takes_the_lowest_layer_first() {
+        let docket = docket("2 3 1", "0 1 2 2 1; 0 0 1 1 0; 1 1 0 0 0", "0 0 0; 0 0 0", TREE);
+        runs(&docket, &[2, 2, 0], 1, &[0, 4, 0], 1, false);
+        runs(&docket, &[2, 2, 0], 2, &[2, 2, 0], 2, false);
+    }
+
+    #[test]
+    fn a_rule_that_meets_its_own_kind() {
+        let bytes = docket("2 3", "0 0 0 1 0", "1 0", TREE).bytes();
+        assert_eq!(can_act(&bytes, &[2, 0], 0), Ok(true));
+        assert_eq!(can_act(&bytes, &[1, 1], 0), Ok(false));
+        let mut counts = [2, 0];
+        assert_eq!((step(&bytes, &mut counts, 0), counts), (Ok(()), [1, 1]));
+    }
+
+    #[test]
+    fn broadcast_counts() {
+        let bytes = broadcast(TREE).bytes();
+        assert_eq!(start_test(&bytes, &[1, 0]), refuse(21, 0));
+        assert_eq!(start_test(&bytes, &[1, 1]), Ok(()));
+        assert_eq!(start_test(&bytes, &[1_000_000, 0]), Ok(()));
+        assert_eq!(start_test(&bytes, &[1_000_000, 1]), refuse(21, 0));
+        assert_eq!(start_test(&bytes, &[u32::MAX, 3]), refuse(21, 0));
+        assert_eq!(start_test(&bytes, &[1, 1, 0]), refuse(20, 0));
+        assert_eq!(start_test(&majority().bytes(), &[1, 1, 0, 1]), refuse(22, 3));
+        runs(&broadcast(TREE), &[1, 1], 0, &[1, 1], 0, false);
+        runs(&broadcast(TREE), &[0, 2], 0, &[0, 2], 0, true);
+        runs(&broadcast(TREE), &[999_999, 1], 999_999, &[0, 1_000_000], 999_999, true);
+    }
+
+    #[test]
+    fn refused_calls_change_nothing() {
+        let bytes = broadcast(TREE).bytes();
+        let mut counts = [0, 2];
+        assert_eq!(step(&bytes, &mut counts, 0), refuse(24, 0));
+        assert_eq!(step(&bytes, &mut counts, u32::MAX), refuse(23, u32::MAX as usize));
+        assert_eq!(can_act(&bytes, &counts, 1), refuse(23, 1));
+        assert_eq!(step(&bytes[..98], &mut counts, 0), refuse(1, 0));
+        assert_eq!(run(&bytes[..98], &mut counts, 9), refuse(1, 0));
+        assert_eq!(counts, [0, 2]);
+        let mut short = [1];
+        assert_eq!((step(&bytes, &mut short, 9), short), (refuse(20, 0), [1]));
+    }
+}

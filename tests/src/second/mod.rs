@@ -1,0 +1,13 @@
+//! A second implementation of the docket check and of its machine.
+//!
+//! Sets and facts are arrays of bool, weights and their sums are signed numbers, and each test is a plain loop in the
+//! order of document 01, so that it can be laid beside its line there.
+
+mod docket;
+mod ladder;
+mod machine;
+mod tree;
+
+pub use docket::{check, line, parse, Docket, Figures, Leaf, Node, Refusal, Rule, State};
+pub use ladder::handover;
+pub use machine::{can_act, is_standstill, run, start_test, step, verdict, Ran, Verdict};

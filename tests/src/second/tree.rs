@@ -1,0 +1,378 @@
+//! The tree: leaf weights (test 11), fields and grounds of the nodes (tests 12 and 13), and the widest set.
+
+use super::docket::{refuse, together, Docket, Leaf, Node, Refusal, Rule};
+
+const GREATEST_DEPTH: usize = 40;
+
+/// What is known on the way down. The first index is the party: 0 the start, 1 and 2 the runs with their ends. The
+/// second is the state, or for `unused` the rule.
+#[derive(Clone)]
+struct Facts {
+    absent: [[bool; 64]; 3],
+    present: [[bool; 64]; 3],
+    at_most_one: [[bool; 64]; 3],
+    unused: [[bool; 256]; 3],
+}
+
+/// Test 11.
+pub(crate) fn leaf_weight_test(docket: &Docket) -> Result<(), Refusal> {
+    for (place, leaf) in docket.leaves.iter().enumerate() {
+        let mut weights = leaf.y1.iter().chain(&leaf.y2);
+        if weights.any(|&weight| !(-10_000..=10_000).contains(&weight)) {
+            return refuse(11, place);
+        }
+    }
+    Ok(())
+}
+
+/// Tests 12 and 13, node by node.
+pub(crate) fn tree_test(docket: &Docket) -> Result<(), Refusal> {
+    let left_over = descend(docket, &Facts::fresh(docket), 0, 1)?;
+    if left_over < docket.nodes.len() {
+        return refuse(12, left_over);
+    }
+    Ok(())
+}
+
+/// How many states the widest set of the tree names.
+pub(crate) fn widest(docket: &Docket) -> u64 {
+    let size = |node: &Node| node.set.iter().filter(|&&named| named).count() as u64;
+    docket.nodes.iter().map(size).max().unwrap_or(0)
+}
+
+/// Tests the node at a place and all below it; hands back the place after them.
+fn descend(docket: &Docket, facts: &Facts, place: usize, depth: usize) -> Result<usize, Refusal> {
+    let Some(node) = docket.nodes.get(place) else {
+        return refuse(12, place);
+    };
+    if depth > GREATEST_DEPTH || !fields_hold(docket, node) {
+        return refuse(12, place);
+    }
+    if !ground_holds(docket, facts, node) {
+        return refuse(13, place);
+    }
+    let mut next = place + 1;
+    for child in facts.of_children(docket, node) {
+        next = descend(docket, &child, next, depth + 1)?;
+    }
+    Ok(next)
+}
+
+/// Whether the fields are those of the node's kind, and those not named are 0.
+fn fields_hold(docket: &Docket, node: &Node) -> bool {
+    let no_set = !node.set.contains(&true);
+    let subset = !node.set[docket.states.len()..].contains(&true);
+    let run = node.party == 1 || node.party == 2;
+    match node.kind {
+        0 => node.party == 0 && node.argument < docket.leaves.len() && no_set,
+        1 => run && node.argument == 0 && no_set,
+        2 | 4 => node.party <= 2 && node.argument < docket.states.len() && no_set,
+        3 => run && node.argument < docket.rules.len() && no_set,
+        5 | 6 => run && node.argument == 0 && !no_set && subset,
+        _ => false,
+    }
+}
+
+/// Whether the ground of a node holds, after its fields are found good.
+fn ground_holds(docket: &Docket, facts: &Facts, node: &Node) -> bool {
+    match node.kind {
+        0 => leaf_closes(docket, facts, &docket.leaves[node.argument]),
+        1 => verdict_absent(docket, facts, node.party),
+        2 => facts.present[node.party][node.argument] && facts.absent[node.party][node.argument],
+        5 => trap_holds(docket, facts, node),
+        6 => siphon_holds(docket, facts, node),
+        _ => true,
+    }
+}
+
+/// Kind 1: party 1, all states of verdict 0 absent at end 1; party 2, all of verdict 1 absent at end 2.
+fn verdict_absent(docket: &Docket, facts: &Facts, party: usize) -> bool {
+    let verdict = if party == 1 { 0 } else { 1 };
+    let mut states = docket.states.iter().enumerate();
+    states.all(|(i, state)| state.verdict != verdict || facts.absent[party][i])
+}
+
+/// Kind 5: the set is absent at the end, and each rule not unused in the run that takes from the set puts into it.
+fn trap_holds(docket: &Docket, facts: &Facts, node: &Node) -> bool {
+    let bad = |rule: &Rule| meets(rule.before, &node.set) && !meets(rule.after, &node.set);
+    facts.set_absent(node.party, &node.set) && facts.all_unused(docket, node.party, bad)
+}
+
+/// Kind 6: the set is absent at the start, and each rule not unused in the run that puts into the set takes from it.
+fn siphon_holds(docket: &Docket, facts: &Facts, node: &Node) -> bool {
+    let bad = |rule: &Rule| meets(rule.after, &node.set) && !meets(rule.before, &node.set);
+    facts.set_absent(0, &node.set) && facts.all_unused(docket, node.party, bad)
+}
+
+fn meets(pair: [usize; 2], set: &[bool; 64]) -> bool {
+    set[pair[0]] || set[pair[1]]
+}
+
+/// The leaf rule: no rule not unused raises its run's weights, and the lower sum exceeds the upper sum.
+fn leaf_closes(docket: &Docket, facts: &Facts, leaf: &Leaf) -> bool {
+    let raises = |y: &[i64], rule: &Rule| together(y, rule.after) > together(y, rule.before);
+    let raised = !facts.all_unused(docket, 1, |rule| raises(&leaf.y1, rule))
+        || !facts.all_unused(docket, 2, |rule| raises(&leaf.y2, rule));
+    match (lower_sum(facts, leaf), upper_sum(facts, leaf)) {
+        (Some(lower), Some(upper)) => !raised && lower > upper,
+        _ => false,
+    }
+}
+
+/// The upper sum; none if y1 + y2 is above 0 at a state not absent at the start.
+fn upper_sum(facts: &Facts, leaf: &Leaf) -> Option<i64> {
+    let mut sum = 0;
+    for (state, (y1, y2)) in leaf.y1.iter().zip(&leaf.y2).enumerate() {
+        if facts.absent[0][state] {
+            continue;
+        }
+        if y1 + y2 > 0 {
+            return None;
+        }
+        if facts.present[0][state] {
+            sum += y1 + y2;
+        }
+    }
+    Some(sum)
+}
+
+/// The lower sum; none if a weight is negative at a state that is neither absent nor at most one at that end.
+fn lower_sum(facts: &Facts, leaf: &Leaf) -> Option<i64> {
+    let mut sum = 0;
+    for (k, y) in [(1, &leaf.y1), (2, &leaf.y2)] {
+        for (state, &weight) in y.iter().enumerate() {
+            if facts.absent[k][state] {
+                continue;
+            }
+            if weight < 0 && !facts.at_most_one[k][state] {
+                return None;
+            }
+            if weight < 0 || facts.present[k][state] {
+                sum += weight;
+            }
+        }
+    }
+    Some(sum)
+}
+
+impl Facts {
+    /// Says only that every state that is no input is absent at the start.
+    fn fresh(docket: &Docket) -> Facts {
+        let none = [[false; 64]; 3];
+        let mut facts = Facts {
+            absent: none,
+            present: none,
+            at_most_one: none,
+            unused: [[false; 256]; 3],
+        };
+        for (i, state) in docket.states.iter().enumerate() {
+            facts.absent[0][i] = !state.input;
+        }
+        facts
+    }
+
+    /// The facts of each child of a node, in order, each grown from these.
+    fn of_children(&self, docket: &Docket, node: &Node) -> Vec<Facts> {
+        let party = node.party;
+        let absent = |state: usize| self.grown(|facts| facts.absent[party][state] = true);
+        let present = |state: usize| self.grown(|facts| facts.present[party][state] = true);
+        let at_most_one = |state: usize| self.grown(|facts| facts.at_most_one[party][state] = true);
+        match node.kind {
+            3 => match docket.rules[node.argument].before {
+                [p, q] if p == q => vec![at_most_one(p)],
+                [p, q] => vec![absent(p), absent(q)],
+            },
+            4 => vec![absent(node.argument), present(node.argument)],
+            5 => vec![self.with_set_absent(docket, node, 0)],
+            6 => vec![self.with_set_absent(docket, node, party)],
+            _ => vec![],
+        }
+    }
+
+    fn grown(&self, grow: impl FnOnce(&mut Facts)) -> Facts {
+        let mut facts = self.clone();
+        grow(&mut facts);
+        facts
+    }
+
+    /// The node's set is absent at a party, and the rules touching it are unused in the node's run.
+    fn with_set_absent(&self, docket: &Docket, node: &Node, party: usize) -> Facts {
+        let mut facts = self.clone();
+        for state in 0..64 {
+            facts.absent[party][state] |= node.set[state];
+        }
+        for (r, rule) in docket.rules.iter().enumerate() {
+            facts.unused[node.party][r] |= meets(rule.before, &node.set) || meets(rule.after, &node.set);
+        }
+        facts
+    }
+
+    fn set_absent(&self, party: usize, set: &[bool; 64]) -> bool {
+        (0..64).all(|state| !set[state] || self.absent[party][state])
+    }
+
+    /// Whether every rule for which `bad` holds is unused in a run.
+    fn all_unused(&self, docket: &Docket, run: usize, bad: impl Fn(&Rule) -> bool) -> bool {
+        let mut rules = docket.rules.iter().enumerate();
+        rules.all(|(r, rule)| self.unused[run][r] || !bad(rule))
+    }
+}
+
+#[cfg(test)]
+mod tests {
+    use super::*;
+    use crate::second::docket::{check, line, samples::*};
+
+    /// Trees of the broadcast docket, and what the check says of them.
+    fn trees(samples: &[(&str, &str)]) {
+        for (nodes, said) in samples {
+            assert_eq!(line(&broadcast(nodes).bytes()).trim_end(), *said, "{nodes}");
+        }
+    }
+
+    #[test]
+    fn p4_to_p7() {
+        trees(&[
+            ("3 1 0 0; 1 1 0 0; 5 1 0 4; 6 2 0 2; 1 2 0 0", "refused 12 2"),
+            ("3 1 0 0; 1 1 0 0; 5 1 0 1; 6 2 0 2; 1 2 0 0", "refused 13 2"),
+            ("3 1 0 0; 1 1 0 0; 5 1 0 2; 6 2 0 2", "refused 12 4"),
+            ("3 1 0 0; 1 1 0 0; 5 1 0 2; 6 2 0 2; 1 2 0 0; 9 9 9 9", "refused 12 5"),
+        ]);
+    }
+
+    #[test]
+    fn bad_fields_come_before_grounds() {
+        let closing = [
+            "0 0 0 0", "1 0 0 0", "1 3 0 0", "1 1 1 0", "1 1 0 1", "2 3 0 0", "2 0 2 0", "2 0 0 1",
+        ];
+        let open = [
+            "3 0 0 0", "3 1 1 0", "3 1 0 1", "4 3 0 0", "4 0 2 0", "5 0 0 2", "6 1 0 0", "7 0 0 0",
+        ];
+        for nodes in [closing, open].concat() {
+            trees(&[(nodes, "refused 12 0")]);
+        }
+        trees(&[
+            ("2 0 0 0; 7 0 0 0", "refused 13 0"),
+            ("6 2 0 9223372036854775810", "refused 12 0"),
+        ]);
+    }
+
+    #[test]
+    fn depth_40_is_the_greatest() {
+        let said = |nodes: &str| line(&docket("3 3", "0 0 0 1 0", "1 0", nodes).bytes());
+        let chain = |length| "3 1 0 0;".repeat(length);
+        assert_eq!(said(&(chain(39) + "1 1 0 0")), "accepted 2 1 1 40 1 0\n");
+        assert_eq!(said(&(chain(40) + "1 1 0 0; 1 1 0 0")), "refused 12 40\n");
+        assert_eq!(said(&chain(39)), "refused 12 39\n");
+    }
+
+    /// A rule that meets its own kind leaves at most one worker there, not none.
+    #[test]
+    fn at_most_one_is_not_absent() {
+        let docket = docket("2 3", "0 0 0 1 0", "1 0", "3 1 0 0; 1 1 0 0");
+        assert_eq!(line(&docket.bytes()), "refused 13 1\n");
+    }
+
+    /// A rule unused in one run is passed over by a trap or siphon of that run, and counts for one of the other run.
+    #[test]
+    fn unused_rules_belong_to_their_run() {
+        let split = |first: &str| format!("{first}{TREE}");
+        trees(&[
+            (
+                "3 1 0 0; 1 1 0 0; 5 1 0 2; 4 1 0 0; 5 1 0 1; 1 1 0 0; 6 2 0 2; 1 2 0 0",
+                "accepted 2 1 1 8 1 1",
+            ),
+            (
+                "3 1 0 0; 1 1 0 0; 5 1 0 2; 4 2 0 0; 5 2 0 1; 1 1 0 0; 6 2 0 2; 1 2 0 0",
+                "refused 13 4",
+            ),
+            (
+                &split("4 0 1 0; 6 2 0 2; 4 2 0 0; 5 2 0 1; 1 2 0 0; 1 2 0 0;"),
+                "accepted 2 1 1 11 1 1",
+            ),
+            (
+                &split("4 0 1 0; 6 2 0 2; 4 1 0 0; 5 1 0 1; 1 2 0 0; 1 2 0 0;"),
+                "refused 13 3",
+            ),
+        ]);
+    }
+
+    #[test]
+    fn grounds_of_traps_and_siphons() {
+        let siphon = format!("4 0 0 0; 6 1 0 1; 1 1 0 0; {TREE}");
+        trees(&[
+            ("5 1 0 2", "refused 13 0"),
+            ("6 2 0 2", "refused 13 0"),
+            (&siphon, "accepted 2 1 1 8 1 1"),
+        ]);
+    }
+
+    #[test]
+    fn facts_of_a_first_child_do_not_stay() {
+        trees(&[
+            ("4 1 0 0; 1 1 0 0; 2 1 0 0", "refused 13 2"),
+            ("3 1 0 0; 1 1 0 0; 1 1 0 0", "refused 13 2"),
+        ]);
+    }
+
+    #[test]
+    fn p12_leaf() {
+        let docket = majority();
+        let (y1, y2) = (vec![1, -1, 0, 0], vec![-1, 1, 0, 0]);
+        let leaf = Leaf { y1, y2 };
+        let closes = |facts: &Facts| leaf_closes(&docket, facts, &leaf);
+        let mut facts = Facts::fresh(&docket);
+        facts.present[1][0] = true;
+        facts.absent[2][0] = true;
+        assert!(!closes(&facts));
+        assert!(closes(&facts.grown(|facts| facts.absent[1][1] = true)));
+        assert!(!closes(&facts.grown(|facts| facts.at_most_one[1][1] = true)));
+        facts.present[2][1] = true;
+        assert!(!closes(&facts));
+        assert!(closes(&facts.grown(|facts| facts.at_most_one[1][1] = true)));
+    }
+
+    /// The upper sum is lowered only where a state is present at the start.
+    #[test]
+    fn upper_sum_of_a_leaf() {
+        let docket = docket("2 3", "", "", "1 1 0 0");
+        let (y1, y2) = (vec![-1, 0], vec![0, 0]);
+        let leaf = Leaf { y1, y2 };
+        let mut facts = Facts::fresh(&docket);
+        facts.absent[1][0] = true;
+        assert!(!leaf_closes(&docket, &facts, &leaf));
+        facts.present[0][0] = true;
+        assert!(leaf_closes(&docket, &facts, &leaf));
+    }
+
+    /// A state absent at the start is free of the leaf rule there, also where it is present.
+    #[test]
+    fn start_of_a_leaf() {
+        let docket = docket("2 3", "", "", "1 1 0 0");
+        let (y1, y2) = (vec![0, 1], vec![0, 0]);
+        let leaf = Leaf { y1, y2 };
+        let mut facts = Facts::fresh(&docket);
+        facts.present[1][1] = true;
+        assert!(!leaf_closes(&docket, &facts, &leaf));
+        facts.absent[0][1] = true;
+        assert!(leaf_closes(&docket, &facts, &leaf));
+        facts.present[0][1] = true;
+        assert!(leaf_closes(&docket, &facts, &leaf));
+    }
+
+    #[test]
+    fn leaf_weights_have_limits() {
+        let mut docket = broadcast(TREE);
+        for (weight, said) in [
+            (10_000, Ok(())),
+            (-10_000, Ok(())),
+            (10_001, refuse(11, 1)),
+            (-10_001, refuse(11, 1)),
+        ] {
+            let (y1, y2) = (vec![0, 0], vec![0, 0]);
+            docket.leaves = vec![Leaf { y1, y2 }; 2];
+            docket.leaves[1].y2[1] = weight;
+            assert_eq!(check(&docket.bytes()).map(|_| ()), said);
+        }
+    }
+}

@@ -20,6 +20,10 @@ fullOf n = λ j. ltb j 64 && ltb j n
 abbrev pub unionOf : ℕ → ℕ → ℕ → Bool
 unionOf a b = λ j. member a j || member b j
 
+-- The members of w, and i where the test passed.
+unfoldable pub withIf : Bool → ℕ → ℕ → ℕ → Bool
+withIf t i w = λ j. member w j || (t && singleOf i j)
+
 -- The members of a that are none of b.
 abbrev pub withoutOf : ℕ → ℕ → ℕ → Bool
 withoutOf a b = λ j. member a j && not (member b j)

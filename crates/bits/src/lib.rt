@@ -1,13 +1,22 @@
 // Words of 64 bits as sets of the numbers below 64.
 ghost use mathlib.Core.Path.{_≡_};
+ghost use Prim.Native.Nat.{_<_};
 ghost use Rattle.theory.specs.Test.{member};
-ghost use Rattle.bits.specs.Word.{singleOf, fullOf, unionOf, withoutOf, subsetOf, disjointOf, sizeOf, lowestOf};
+ghost use Rattle.bits.specs.Word.{singleOf, fullOf, unionOf, withIf, withoutOf, subsetOf, disjointOf, sizeOf, lowestOf};
 
 // Whether i is a member.
 pub fn has(w: u64, i: usize) -> bool
     ensures { λ r. ⌜ r ≡ member w i ⌝ }
 {
     if i < 64 { (w >> i) % 2 == 1 } else { false }
+}
+
+// Whether i, which is below 64, is a member.
+pub fn has_below(w: u64, i: usize) -> bool
+    requires { ⌜ i < 64 ⌝ }
+    ensures { λ r. ⌜ r ≡ member w i ⌝ }
+{
+    (w >> i) % 2 == 1
 }
 
 // The set of i alone; the empty set where i is 64 or more.
@@ -29,6 +38,16 @@ pub fn union(a: u64, b: u64) -> u64
     ensures { λ r. ⌜ member r ≡ unionOf a b ⌝ }
 {
     a | b
+}
+
+// The members of w, and i where the test passed; no number from 64 on.
+pub fn with_if(w: u64, t: bool, i: usize) -> u64
+    ensures { λ r. ⌜ member r ≡ withIf t i w ⌝ }
+{
+    if i < 64 {
+        return union(w, (t as u64) << i);
+    }
+    w
 }
 
 // The members of a that are none of b.

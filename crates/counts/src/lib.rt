@@ -7,7 +7,7 @@ ghost use Rattle.theory.specs.Below.{sumBelow};
 ghost use Rattle.theory.specs.Protocol.{size, lose as loseOf, gain as gainOf, enabled as enabledOf, fire as fireOf};
 ghost use Rattle.theory.specs.Machine.{chosen};
 ghost use Rattle.format.specs.Format.{tableOf};
-ghost use Rattle.counts.specs.Counts.{countsFault, statesThat, withIf, hasFlag, isOccupied};
+ghost use Rattle.counts.specs.Counts.{countsFault, pairEnabled, statesThat, hasFlag, isOccupied};
 use format::Sizes;
 
 // A bit of a state's byte.
@@ -58,20 +58,27 @@ pub fn counts_fault(counts: &[u32], z: Sizes) -> u32
     0
 }
 
+// Whether p and q each hold an agent, or, where p = q, at least two.
+fn pair_enabled(counts: &[u32], p: usize, q: usize) -> bool
+    ensures { λ t. ⌜ t ≡ pairEnabled (now (counts .entry)) p q ⌝ }
+{
+    let held = count(counts, p);
+    if held < 1 {
+        return false;
+    }
+    let same = p == q;
+    if same {
+        return 1 < held;
+    }
+    0 < count(counts, q)
+}
+
 // Whether rule r is enabled.
 pub fn enabled(rules: &[u8], z: Sizes, counts: &[u32], r: u16) -> bool
     ensures { λ t. ⌜ t ≡ enabledOf (tableOf z (now (rules .entry))) (now (counts .entry)) r ⌝ }
 {
-    let p = format::rule_p(rules, r);
-    let q = format::rule_q(rules, r);
-    let same = p == q;
-    if same {
-        return 1 < count(counts, p);
-    }
-    if 0 < count(counts, p) {
-        return 0 < count(counts, q);
-    }
-    false
+    let t = format::read_rule(rules, r);
+    pair_enabled(counts, t.p, t.q)
 }
 
 // One agent of state s less, where there is one.
@@ -118,14 +125,14 @@ pub fn choose(rules: &[u8], z: Sizes, counts: &[u32]) -> u16
     let mut low = (z.layers as usize) + 1;
     let mut r: u16 = 0;
     while r < z.rules {
-        let l = format::rule_layer(rules, r);
-        if l < low {
-            if enabled(rules, z, counts, r) {
-                if l == 0 {
+        let t = format::read_rule(rules, r);
+        if t.layer < low {
+            if pair_enabled(counts, t.p, t.q) {
+                if t.layer == 0 {
                     return r;
                 }
                 best = r;
-                low = l;
+                low = t.layer;
             }
         }
         r += 1;
@@ -150,16 +157,6 @@ fn is_occupied(counts: &[u32], s: u16) -> bool
     0 < count(counts, s as usize)
 }
 
-// The set, with state s where the test passed.
-fn with_if(set: u64, t: bool, s: u16) -> u64
-    ensures { λ w. ⌜ member w ≡ withIf t s (member set) ⌝ }
-{
-    if t {
-        return bits::union(set, bits::single(s as usize));
-    }
-    set
-}
-
 // The states below n that have the flag, as a word.
 pub fn flag_set(states: &[u8], n: u16, f: Flag) -> u64
     ensures { λ w. ⌜ member w ≡ statesThat (hasFlag (now (states .entry)) f) n ⌝ }
@@ -167,7 +164,7 @@ pub fn flag_set(states: &[u8], n: u16, f: Flag) -> u64
     let mut set: u64 = 0;
     let mut i: u16 = 0;
     while i < n {
-        set = with_if(set, has_flag(states, f, i), i);
+        set = bits::with_if(set, has_flag(states, f, i), i as usize);
         i += 1;
     }
     set
@@ -180,7 +177,7 @@ pub fn occupied(counts: &[u32], n: u16) -> u64
     let mut set: u64 = 0;
     let mut i: u16 = 0;
     while i < n {
-        set = with_if(set, is_occupied(counts, i), i);
+        set = bits::with_if(set, is_occupied(counts, i), i as usize);
         i += 1;
     }
     set

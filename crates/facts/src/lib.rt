@@ -1,10 +1,10 @@
 // The facts that a tree of arguments gathers, as sets in words of 64 bits. Every function is total: a party or a rule outside its limits has no facts, and none can be marked there.
 ghost use mathlib.Core.Path.{_≡_};
 ghost use mathlib.Core.Bool.{_&&_};
-ghost use lib.Dec.{ltb, eqb};
+ghost use lib.Dec.{ltb};
 ghost use Rattle.theory.specs.Test.{member};
 ghost use Rattle.theory.specs.Facts.{withAbsent, withPresent, withAtMostOne, withUnused};
-ghost use Rattle.facts.specs.Facts.{factsOf, freshOf, onlyIf};
+ghost use Rattle.facts.specs.Facts.{factsOf, freshOf, onlyIf, inWord, fromWord};
 
 // Party 0 is the start, 1 and 2 are the runs with their ends: a word a party for its states, four words a party for its rules.
 pub struct Facts {
@@ -22,6 +22,9 @@ impl Facts {
     pub const STATES: u16 = 64;
 
     pub const RULES: u16 = 256;
+
+    // How many words the rules of a run take.
+    pub const WORDS: usize = 4;
 
     // Every one of the n states that is no input is absent at the start.
     pub fn fresh(inputs: u64, n: u16) -> Facts
@@ -70,20 +73,18 @@ impl Facts {
         self
     }
 
-    // The rule is unused in the run.
-    pub fn mark_unused(mut self, run: usize, rule: u16) -> Facts
-        ensures { λ r. ⌜ factsOf r ≡ withUnused (factsOf self) run (onlyIf (ltb run 3 && ltb rule 256) (eqb rule)) ⌝ }
+    // The rules of the set are unused in the run. The set is of the 64 rules from 64 word on: member i is rule 64 word + i.
+    pub fn mark_unused(mut self, run: usize, word: usize, set: u64) -> Facts
+        ensures { λ r. ⌜ factsOf r ≡ withUnused (factsOf self) run (onlyIf (ltb run 3 && ltb word 4) (fromWord word (member set))) ⌝ }
     {
         if 3 <= run {
             return self;
         }
-        if Facts::RULES <= rule {
+        if Facts::WORDS <= word {
             return self;
         }
-        let i = rule as usize;
-        let at = 4 * run + i / 64;
-        let one = bits::single(i % 64);
-        self.unused[at] = bits::union(self.unused[at], one);
+        let at = Facts::WORDS * run + word;
+        self.unused[at] = bits::union(self.unused[at], set);
         self
     }
 
@@ -112,18 +113,16 @@ impl Facts {
         }
     }
 
-    // Whether the rule is unused in the run.
-    pub fn is_unused(self, run: usize, rule: u16) -> bool
-        ensures { λ r. ⌜ r ≡ factsOf self .unused run rule ⌝ }
+    // The rules that are unused in the run, of the 64 rules from 64 word on: member i is rule 64 word + i.
+    pub fn unused(self, run: usize, word: usize) -> u64
+        ensures { λ r. ⌜ member r ≡ inWord word (factsOf self .unused run) ⌝ }
     {
         if 3 <= run {
-            return false;
+            return 0;
         }
-        if Facts::RULES <= rule {
-            return false;
+        if Facts::WORDS <= word {
+            return 0;
         }
-        let i = rule as usize;
-        let word = 4 * run + i / 64;
-        bits::has(self.unused[word], i % 64)
+        self.unused[Facts::WORDS * run + word]
     }
 }

@@ -8,6 +8,7 @@ use Rattle.theory.specs.Tree.{Tree}
 use Rattle.format.specs.Bytes.{le16, le32, le64, part}
 use Rattle.format.specs.declared.Sizes.{Sizes}
 use Rattle.format.specs.declared.Header.{Header}
+use Rattle.format.specs.declared.Rule.{Rule}
 
 -- The header: twelve 16-bit numbers.
 abbrev pub headerOf : List ℕ → Header
@@ -74,6 +75,9 @@ ruleQ′ xs r = getD xs (5 * r + 3) 0
 
 abbrev pub ruleLayer : List ℕ → ℕ → ℕ
 ruleLayer xs r = getD xs (5 * r + 4) 0
+
+abbrev pub ruleOf : List ℕ → ℕ → Rule
+ruleOf xs r = record { p = ruleP xs r; q = ruleQ xs r; p2 = ruleP′ xs r; q2 = ruleQ′ xs r; layer = ruleLayer xs r }
 
 -- Layer l's weight of state s, of n states.
 abbrev pub layerWeight : ℕ → List ℕ → ℕ → ℕ → ℕ

@@ -3,7 +3,7 @@ ghost use mathlib.Core.Path.{_≡_};
 ghost use Prim.Native.Nat.{_+_, _*_};
 ghost use lib.ListN.{getD};
 ghost use Rattle.format.specs.Bytes.{le16, le32, le64, part, Value};
-ghost use Rattle.format.specs.Format.{headerOf, statesLength, rulesLength, layersLength, nodesLength, leavesLength, flags, ruleP, ruleQ, ruleP′, ruleQ′, ruleLayer, layerWeight, nodeKind, nodeParty, nodeArgument, nodeSet, leafBits, biased};
+ghost use Rattle.format.specs.Format.{headerOf, statesLength, rulesLength, layersLength, nodesLength, leavesLength, flags, ruleP, ruleQ, ruleOf, ruleP′, ruleQ′, ruleLayer, layerWeight, nodeKind, nodeParty, nodeArgument, nodeSet, leafBits, biased};
 
 // How many records each section has.
 pub struct Sizes {
@@ -30,6 +30,15 @@ pub struct Header {
     pub at: Offsets,
 }
 
+// One rule: before pair p, q, after pair p2, q2, layer.
+pub struct Rule {
+    pub p: usize,
+    pub q: usize,
+    pub p2: usize,
+    pub q2: usize,
+    pub layer: usize,
+}
+
 fn wide(x: u8) -> usize
     ensures { λ r. ⌜ Value 256 x r ⌝ }
 {
@@ -49,14 +58,19 @@ pub fn byte(b: &[u8], k: usize) -> usize
 pub fn read16(b: &[u8], k: usize) -> u16
     ensures { λ r. ⌜ r ≡ le16 (now (b .entry)) k ⌝ }
 {
-    if k < b.len() {
-        let v = byte(b, k) + 256 * byte(b, k + 1);
-        return v as u16;
+    let len = b.len();
+    if len < 2 {
+        return byte(b, k) as u16;
     }
-    0
+    if len - 2 < k {
+        return byte(b, k) as u16;
+    }
+    let v = wide(b[k]) + 256 * wide(b[k + 1]);
+    v as u16
 }
 
-pub fn read32(b: &[u8], k: usize) -> u32
+// The 32-bit number at k, from its two halves.
+fn read_halves(b: &[u8], k: usize) -> u32
     ensures { λ r. ⌜ r ≡ le32 (now (b .entry)) k ⌝ }
 {
     if k < b.len() {
@@ -65,6 +79,22 @@ pub fn read32(b: &[u8], k: usize) -> u32
         return (low as u32) + 65536 * (high as u32);
     }
     0
+}
+
+// The 32-bit number at k. Where all four bytes are there, they are read at once.
+pub fn read32(b: &[u8], k: usize) -> u32
+    ensures { λ r. ⌜ r ≡ le32 (now (b .entry)) k ⌝ }
+{
+    let len = b.len();
+    if len < 4 {
+        return read_halves(b, k);
+    }
+    if len - 4 < k {
+        return read_halves(b, k);
+    }
+    let low = wide(b[k]) + 256 * wide(b[k + 1]);
+    let high = wide(b[k + 2]) + 256 * wide(b[k + 3]);
+    (low + 65536 * high) as u32
 }
 
 pub fn read64(b: &[u8], k: usize) -> u64
@@ -167,6 +197,29 @@ pub fn state_flags(states: &[u8], s: u16) -> usize
     ensures { λ x. ⌜ Value 256 (flags (now (states .entry)) s) x ⌝ }
 {
     byte(states, s as usize)
+}
+
+// Rule r, all of it.
+pub fn read_rule(rules: &[u8], r: u16) -> Rule
+    ensures { λ x. ⌜ x ≡ ruleOf (now (rules .entry)) r ⌝ }
+{
+    let at = 5 * (r as usize);
+    if at + 4 < rules.len() {
+        return Rule {
+            p: wide(rules[at]),
+            q: wide(rules[at + 1]),
+            p2: wide(rules[at + 2]),
+            q2: wide(rules[at + 3]),
+            layer: wide(rules[at + 4]),
+        };
+    }
+    Rule {
+        p: byte(rules, at),
+        q: byte(rules, at + 1),
+        p2: byte(rules, at + 2),
+        q2: byte(rules, at + 3),
+        layer: byte(rules, at + 4),
+    }
 }
 
 pub fn rule_p(rules: &[u8], r: u16) -> usize

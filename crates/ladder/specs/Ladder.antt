@@ -7,9 +7,9 @@ use Rattle.theory.specs.Test.{imp, bit}
 use Rattle.theory.specs.Below.{anyBelow}
 use Rattle.theory.specs.Protocol.{Protocol}
 use Rattle.theory.specs.Ladder.{isLower, fits}
-use Rattle.format.specs.Format.{ruleP, ruleQ, ruleP′, ruleQ′, ruleLayer, protocolOf}
+use Rattle.format.specs.Format.{ruleP, ruleQ, ruleLayer, protocolOf}
 use Rattle.format.specs.declared.Sizes.{Sizes}
-use Rattle.ladder.specs.declared.Rule.{Rule}
+use Rattle.format.specs.declared.Rule.{Rule}
 use Rattle.ladder.specs.declared.PreSequence.{PreSequence}
 pub mod Laws
 
@@ -24,11 +24,6 @@ fitting P s u v = isLower P v s && fits P s u v
 -- Rule u is of a lower layer than s, and no rule is fitting: handover fails at s.
 unfoldable pub uncovered : Protocol → ℕ → ℕ → Bool
 uncovered P s u = not (imp (isLower P u s) (anyBelow (P .rules) (fitting P s u)))
-
--- ---- What the functions answer
-
-abbrev pub ruleOf : List ℕ → ℕ → Rule
-ruleOf rules r = record { p = ruleP rules r; q = ruleQ rules r; p2 = ruleP′ rules r; q2 = ruleQ′ rules r; layer = ruleLayer rules r }
 
 -- How often the state x stands in the pair a, b.
 abbrev pub inPair : ℕ → ℕ → ℕ → ℕ

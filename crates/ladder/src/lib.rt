@@ -7,17 +7,9 @@ ghost use Rattle.theory.specs.Below.{firstBelow};
 ghost use Rattle.theory.specs.Ladder.{lowersAt, handoverAt, spread, spreads};
 ghost use Rattle.format.specs.Bytes.{Value};
 ghost use Rattle.format.specs.Format.{layerWeight};
-ghost use Rattle.ladder.specs.Ladder.{ladderOf, ruleOf, inPair, beyondOf, preSequenceOf, coversOf, absentOf, fitsIn};
+ghost use Rattle.ladder.specs.Ladder.{ladderOf, inPair, beyondOf, preSequenceOf, coversOf, absentOf, fitsIn};
+use format::Rule;
 use format::Sizes;
-
-// The fields of one rule: before pair, after pair, layer.
-struct Rule {
-    p: usize,
-    q: usize,
-    p2: usize,
-    q2: usize,
-    layer: usize,
-}
 
 // The agents of a group of at most four, by their states; the number of states stands for no agent.
 struct PreSequence {
@@ -65,19 +57,6 @@ pub fn lowering_fault(rules: &[u8], layers: &[u8], z: Sizes) -> u16
 }
 
 // ---- Handover
-
-// Rule r.
-fn read_rule(rules: &[u8], r: u16) -> Rule
-    ensures { λ x. ⌜ x ≡ ruleOf (now (rules .entry)) r ⌝ }
-{
-    Rule {
-        p: format::rule_p(rules, r),
-        q: format::rule_q(rules, r),
-        p2: format::rule_p_after(rules, r),
-        q2: format::rule_q_after(rules, r),
-        layer: format::rule_layer(rules, r),
-    }
-}
 
 // How often the state x stands in the pair a, b.
 fn in_pair(a: usize, b: usize, x: usize) -> usize
@@ -147,11 +126,11 @@ pub fn handover_fault(rules: &[u8], z: Sizes) -> u16
     let n = z.states as usize;
     let mut s: u16 = 0;
     'test: while s < z.rules {
-        let rule = read_rule(rules, s);
+        let rule = format::read_rule(rules, s);
         let layer = rule.layer;
         let mut u: u16 = 0;
         while u < z.rules {
-            let other = read_rule(rules, u);
+            let other = format::read_rule(rules, u);
             if other.layer < layer {
                 let j = pre_sequence(n, rule, other);
                 let mut v: u16 = 0;

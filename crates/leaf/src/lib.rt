@@ -1,87 +1,41 @@
-// The leaves of a docket: test 11, and the leaf rule. A weight is read with 10,000 added, so all numbers are unsigned. Every function is total.
+// The leaves of a docket: test 11, and the leaf rule. A weight is read with 10,000 added, so all numbers are unsigned. Every public function is total.
 ghost use mathlib.Core.Path.{_≡_};
-ghost use mathlib.Core.List.{[]};
-ghost use Prim.Native.Nat.{_+_, _-_, _*_};
-ghost use Rattle.theory.specs.Test.{bit};
-ghost use Rattle.theory.specs.Below.{firstBelow, sumBelow};
-ghost use Rattle.theory.specs.Leaf.{leafCloses};
+ghost use mathlib.Core.Bool.{_||_};
+ghost use Prim.Native.Nat.{_+_, _-_, _*_, _<_, min};
+ghost use Rattle.theory.specs.Test.{bit, member};
+ghost use Rattle.theory.specs.Below.{firstBelow};
+ghost use Rattle.theory.specs.Leaf.{nonIncreasing, leafCloses};
 ghost use Rattle.format.specs.Bytes.{Value};
-ghost use Rattle.format.specs.Format.{weightsOf};
+ghost use Rattle.format.specs.Format.{tableOf, weightsOf};
 ghost use Rattle.facts.specs.Facts.{factsOf};
-ghost use Rattle.leaf.specs.Leaf.{KnownAt, endWeight, badLeaf, faultOf, increases, termOf, weightsFit, sumsClose};
-ghost use Rattle.format.specs.Format.{tableOf};
+ghost use Rattle.leaf.specs.Leaf.{KnownAt, ShareIs, endWeight, overLimit, badLeaf, keeps, startShare, endShare, shareOf};
 use facts::Facts;
 use format::Sizes;
 
-// What a leaf may not have at a state.
-pub enum Fault {
-    // A weight outside its limits at end e + 1.
-    Limit(u16),
-    // A sum of both weights over 0, where the state is not in this set: those absent at the start.
-    Start(u64),
-    // A weight below 0 at end e + 1, where the state is not in this set: those absent or at most one there.
-    End(u16, u64),
-}
-
-// What the sums of a leaf take of a state.
-pub enum Term {
-    // How far the sum of both weights is below 0, where the state is in this set: those present at the start.
-    Spare(u64),
-    // How far the weight is over 0 at end e + 1, where the state is in this set: those present there.
-    Surplus(u16, u64),
-    // How far the weight is below 0 at end e + 1, where the state is not in this set: those absent there.
-    Shortfall(u16, u64),
-}
-
-// What the facts say of the states at one party.
+// What the facts say of the states at one party. A state that is absent is not among those present.
 pub struct Known {
     pub absent: u64,
     pub present: u64,
     pub at_most_one: u64,
 }
 
-fn known_at(facts: Facts, party: usize) -> Known
-    ensures { λ r. ⌜ KnownAt (factsOf facts) party r ⌝ }
-{
-    Known {
-        absent: facts.absent(party),
-        present: facts.present(party),
-        at_most_one: facts.at_most_one(party),
-    }
+// The share of one state in the leaf rule.
+pub struct Share {
+    // Whether the facts allow the signs of its weights.
+    pub fits: bool,
+    // Its surpluses and its spare together.
+    pub plus: u32,
+    // Its shortfalls together.
+    pub minus: u32,
 }
 
-// The weights of state p at end d + 1 and of state q at end e + 1 together, plus 20,000.
-fn two_weights(leaves: &[u8], z: Sizes, l: u16, d: u16, p: u16, e: u16, q: u16) -> u32
-    ensures { λ x. ⌜ Value 131072 (endWeight z (now (leaves .entry)) l d p + endWeight z (now (leaves .entry)) l e q) x ⌝ }
-{
-    let first = format::leaf_weight(leaves, z.states, l, d, p);
-    let second = format::leaf_weight(leaves, z.states, l, e, q);
-    first + second
-}
-
-// Whether leaf l has the fault at state s.
-fn faulty(leaves: &[u8], z: Sizes, l: u16, t: Fault, s: u16) -> bool
-    ensures { λ r. ⌜ r ≡ faultOf z (now (leaves .entry)) l t s ⌝ }
-{
-    match t {
-        Fault::Limit(e) => 20000 < format::leaf_weight(leaves, z.states, l, e, s),
-        Fault::Start(absent) => {
-            !bits::has(absent, s as usize) & (20000 < two_weights(leaves, z, l, 0, s, 1, s))
-        }
-        Fault::End(e, allowed) => {
-            !bits::has(allowed, s as usize)
-                & (format::leaf_weight(leaves, z.states, l, e, s) < 10000)
-        }
-    }
-}
-
-// The first state at which leaf l has the fault, or the number of states.
-fn first_fault(leaves: &[u8], z: Sizes, l: u16, t: Fault) -> u16
-    ensures { λ r. ⌜ r ≡ firstBelow (z .states) (faultOf z (now (leaves .entry)) l t) ⌝ }
+// The first state at which leaf l has a weight outside -10,000 to 10,000 at end e + 1, or the number of states.
+fn first_fault(leaves: &[u8], z: Sizes, l: u16, e: u16) -> u16
+    ensures { λ r. ⌜ r ≡ firstBelow (z .states) (overLimit z (now (leaves .entry)) l e) ⌝ }
 {
     let mut s: u16 = 0;
     while s < z.states {
-        if faulty(leaves, z, l, t, s) {
+        if 20000 < format::leaf_weight(leaves, z.states, l, e, s) {
             return s;
         }
         s += 1;
@@ -92,8 +46,8 @@ fn first_fault(leaves: &[u8], z: Sizes, l: u16, t: Fault) -> u16
 fn leaf_bad(leaves: &[u8], z: Sizes, l: u16) -> bool
     ensures { λ r. ⌜ r ≡ badLeaf z (now (leaves .entry)) l ⌝ }
 {
-    let first = first_fault(leaves, z, l, Fault::Limit(0));
-    let second = first_fault(leaves, z, l, Fault::Limit(1));
+    let first = first_fault(leaves, z, l, 0);
+    let second = first_fault(leaves, z, l, 1);
     (first < z.states) | (second < z.states)
 }
 
@@ -111,43 +65,77 @@ pub fn leaf_fault(leaves: &[u8], z: Sizes) -> u16
     l
 }
 
-// Whether rule r is not unused in run e + 1 and the after pair weighs more at its end than the before pair.
-fn rule_increases(
-    facts: Facts,
+// The weights of states p and q at end e + 1 together, plus 20,000.
+fn pair_weight(leaves: &[u8], z: Sizes, l: u16, e: u16, p: usize, q: usize) -> u32
+    requires { ⌜ (p < 65536) × (q < 65536) ⌝ }
+    ensures { λ x. ⌜ Value 131072 (endWeight z (now (leaves .entry)) l e p + endWeight z (now (leaves .entry)) l e q) x ⌝ }
+{
+    let first = format::leaf_weight(leaves, z.states, l, e, p as u16);
+    let second = format::leaf_weight(leaves, z.states, l, e, q as u16);
+    first + second
+}
+
+// Whether i is a member of unused, or the after pair of rule r weighs at end e + 1 at most what the before pair weighs.
+fn rule_keeps(
     rules: &[u8],
     leaves: &[u8],
     z: Sizes,
     l: u16,
     e: u16,
+    unused: u64,
+    i: usize,
     r: u16,
 ) -> bool
-    ensures { λ t. ⌜ t ≡ increases z (now (rules .entry)) (now (leaves .entry)) (factsOf facts) l e r ⌝ }
+    ensures { λ t. ⌜ t ≡ (member unused i || keeps z (now (rules .entry)) (now (leaves .entry)) l e r) ⌝ }
 {
-    let run = (e as usize) + 1;
-    if facts.is_unused(run, r) {
-        return false;
+    if bits::has(unused, i) {
+        return true;
     }
-    let p = format::rule_p(rules, r) as u16;
-    let q = format::rule_q(rules, r) as u16;
-    let p2 = format::rule_p_after(rules, r) as u16;
-    let q2 = format::rule_q_after(rules, r) as u16;
-    let before = two_weights(leaves, z, l, e, p, e, q);
-    let after = two_weights(leaves, z, l, e, p2, e, q2);
-    before < after
+    let rule = format::read_rule(rules, r);
+    let before = pair_weight(leaves, z, l, e, rule.p, rule.q);
+    let after = pair_weight(leaves, z, l, e, rule.p2, rule.q2);
+    after <= before
 }
 
-// The first rule that increases the weight in run e + 1, or the number of rules.
-fn first_increase(facts: Facts, rules: &[u8], leaves: &[u8], z: Sizes, l: u16, e: u16) -> u16
-    ensures { λ r. ⌜ r ≡ firstBelow (z .rules) (increases z (now (rules .entry)) (now (leaves .entry)) (factsOf facts) l e) ⌝ }
+fn lesser(a: u16, b: u16) -> u16
+    ensures { λ x. ⌜ x ≡ min a b ⌝ }
 {
+    if a < b { a } else { b }
+}
+
+// Whether every rule that is not unused in run e + 1 has an after pair that weighs at end e + 1 at most what the before pair weighs. The set of unused rules is read once for 64 rules.
+fn non_increasing(facts: Facts, rules: &[u8], leaves: &[u8], z: Sizes, l: u16, e: u16) -> bool
+    ensures { λ t. ⌜ t ≡ nonIncreasing (tableOf z (now (rules .entry))) (factsOf facts .unused (e + 1)) (endWeight z (now (leaves .entry)) l e) ⌝ }
+{
+    let run = (e as usize) + 1;
+    let mut word: usize = 0;
     let mut r: u16 = 0;
-    while r < z.rules {
-        if rule_increases(facts, rules, leaves, z, l, e, r) {
-            return r;
+    'words: while r < z.rules {
+        let unused = facts.unused(run, word);
+        let n = lesser(z.rules - r, 64) as usize;
+        let mut i: usize = 0;
+        'rules: while i < n {
+            if !rule_keeps(rules, leaves, z, l, e, unused, i, r) {
+                return false;
+            }
+            i += 1;
+            r += 1;
         }
-        r += 1;
+        word += 1;
     }
-    r
+    true
+}
+
+fn known_at(facts: Facts, party: usize) -> Known
+    ensures { λ r. ⌜ KnownAt (factsOf facts) party r ⌝ }
+{
+    let absent = facts.absent(party);
+    let present = facts.present(party);
+    Known {
+        absent,
+        present: bits::without(present, absent),
+        at_most_one: facts.at_most_one(party),
+    }
 }
 
 // How much a exceeds b, or 0; and 0 unless it counts.
@@ -163,88 +151,105 @@ fn excess(counts: bool, a: u32, b: u32) -> u32
     a - b
 }
 
-// The term of state s.
-fn term_at(leaves: &[u8], z: Sizes, l: u16, t: Term, s: u16) -> u32
-    ensures { λ x. ⌜ Value 65536 (termOf z (now (leaves .entry)) l t s) x ⌝ }
+// The share of state i at the start: y is the sum of its two weights, plus 20,000.
+fn start_share(known: Known, i: usize, y: u32) -> Share
+    ensures { λ x. ⌜ ShareIs (20000 + y) (startShare known i y) x ⌝ }
 {
-    match t {
-        Term::Spare(present) => excess(
-            bits::has(present, s as usize),
-            20000,
-            two_weights(leaves, z, l, 0, s, 1, s),
-        ),
-        Term::Surplus(e, present) => excess(
-            bits::has(present, s as usize),
-            format::leaf_weight(leaves, z.states, l, e, s),
-            10000,
-        ),
-        Term::Shortfall(e, absent) => excess(
-            !bits::has(absent, s as usize),
-            10000,
-            format::leaf_weight(leaves, z.states, l, e, s),
-        ),
+    if 20000 < y {
+        return Share {
+            fits: bits::has(known.absent, i),
+            plus: 0,
+            minus: 0,
+        };
+    }
+    Share {
+        fits: true,
+        plus: excess(bits::has(known.present, i), 20000, y),
+        minus: 0,
     }
 }
 
-// The sum of the terms of all states.
-fn total(leaves: &[u8], z: Sizes, l: u16, t: Term) -> u64
-    ensures { λ x. ⌜ Value 4294967296 (sumBelow (z .states) (termOf z (now (leaves .entry)) l t)) x ⌝ }
+// The share of state i at an end: y is its weight there, plus 10,000.
+fn end_share(known: Known, i: usize, y: u32) -> Share
+    ensures { λ x. ⌜ ShareIs (20000 + y) (endShare known i y) x ⌝ }
 {
-    let mut sum: u64 = 0;
-    let mut s: u16 = 0;
-    while s < z.states {
-        let one = term_at(leaves, z, l, t, s);
-        sum += one as u64;
-        s += 1;
+    if 10000 <= y {
+        return Share {
+            fits: true,
+            plus: excess(bits::has(known.present, i), y, 10000),
+            minus: 0,
+        };
     }
-    sum
+    if bits::has(known.absent, i) {
+        return Share {
+            fits: true,
+            plus: 0,
+            minus: 0,
+        };
+    }
+    Share {
+        fits: bits::has(known.at_most_one, i),
+        plus: 0,
+        minus: 10000 - y,
+    }
 }
 
-// Whether each weight is of a sign that the facts allow: at most 0 at the start, at an end 0 or more unless there is at most one agent.
-fn weights_fit(facts: Facts, leaves: &[u8], z: Sizes, l: u16) -> bool
-    ensures { λ r. ⌜ r ≡ weightsFit (tableOf z []) (factsOf facts) (weightsOf z (now (leaves .entry)) l) ⌝ }
+// The share of state s at the start and at both ends. It is nothing where both weights are 0.
+fn share_at(
+    start: Known,
+    first: Known,
+    second: Known,
+    leaves: &[u8],
+    z: Sizes,
+    l: u16,
+    s: u16,
+) -> Share
+    ensures { λ x. ⌜ ShareIs 1048576 (shareOf z (now (leaves .entry)) l start first second s) x ⌝ }
 {
-    let start = known_at(facts, 0);
-    let first = known_at(facts, 1);
-    let second = known_at(facts, 2);
-    let allowed = bits::union(first.absent, first.at_most_one);
-    let at_first = first_fault(leaves, z, l, Fault::End(0, allowed));
-    let allowed = bits::union(second.absent, second.at_most_one);
-    let at_second = first_fault(leaves, z, l, Fault::End(1, allowed));
-    let at_start = first_fault(leaves, z, l, Fault::Start(start.absent));
-    !(at_start < z.states) & !(at_first < z.states) & !(at_second < z.states)
-}
-
-// Whether the lower sum exceeds the upper one.
-fn sums_close(facts: Facts, leaves: &[u8], z: Sizes, l: u16) -> bool
-    ensures { λ r. ⌜ r ≡ sumsClose (tableOf z []) (factsOf facts) (weightsOf z (now (leaves .entry)) l) ⌝ }
-{
-    let start = known_at(facts, 0);
-    let first = known_at(facts, 1);
-    let second = known_at(facts, 2);
-    let known = bits::without(start.present, start.absent);
-    let spare = total(leaves, z, l, Term::Spare(known));
-    let known = bits::without(first.present, first.absent);
-    let surplus = total(leaves, z, l, Term::Surplus(0, known));
-    let shortfall = total(leaves, z, l, Term::Shortfall(0, first.absent));
-    let known = bits::without(second.present, second.absent);
-    let surplus = surplus + total(leaves, z, l, Term::Surplus(1, known));
-    let shortfall = shortfall + total(leaves, z, l, Term::Shortfall(1, second.absent));
-    shortfall < surplus + spare
+    let y1 = format::leaf_weight(leaves, z.states, l, 0, s);
+    let y2 = format::leaf_weight(leaves, z.states, l, 1, s);
+    if (y1 == 10000) & (y2 == 10000) {
+        return Share {
+            fits: true,
+            plus: 0,
+            minus: 0,
+        };
+    }
+    let i = s as usize;
+    let a = start_share(start, i, y1 + y2);
+    let b = end_share(first, i, y1);
+    let c = end_share(second, i, y2);
+    Share {
+        fits: a.fits & b.fits & c.fits,
+        plus: b.plus + c.plus + a.plus,
+        minus: b.minus + c.minus,
+    }
 }
 
 // The leaf rule: whether leaf l closes on the facts.
 pub fn leaf_closes(facts: Facts, rules: &[u8], leaves: &[u8], z: Sizes, l: u16) -> bool
     ensures { λ r. ⌜ r ≡ leafCloses (tableOf z (now (rules .entry))) (factsOf facts) (weightsOf z (now (leaves .entry)) l) ⌝ }
 {
-    if first_increase(facts, rules, leaves, z, l, 0) < z.rules {
+    if !non_increasing(facts, rules, leaves, z, l, 0) {
         return false;
     }
-    if first_increase(facts, rules, leaves, z, l, 1) < z.rules {
+    if !non_increasing(facts, rules, leaves, z, l, 1) {
         return false;
     }
-    if !weights_fit(facts, leaves, z, l) {
-        return false;
+    let start = known_at(facts, 0);
+    let first = known_at(facts, 1);
+    let second = known_at(facts, 2);
+    let mut plus: u64 = 0;
+    let mut minus: u64 = 0;
+    let mut s: u16 = 0;
+    while s < z.states {
+        let one = share_at(start, first, second, leaves, z, l, s);
+        if !one.fits {
+            return false;
+        }
+        plus += one.plus as u64;
+        minus += one.minus as u64;
+        s += 1;
     }
-    sums_close(facts, leaves, z, l)
+    minus < plus
 }

@@ -1,4 +1,5 @@
 -- What one node of the tree comes to (document 01, "The tree"), over the bytes and words that the code has.
+use mathlib.Core.Path.{_≡_}
 use mathlib.Core.Bool.{Bool, true, false, cond, Bool·beq, _&&_, _||_}
 use mathlib.Core.List.{List, [], _∷_}
 use Prim.Native.Nat.{ℕ, _^_, _≤_, _<_}
@@ -9,10 +10,11 @@ use Rattle.theory.specs.Protocol.{Protocol}
 use Rattle.theory.specs.Facts.{Facts, withAbsent, withAtMostOne, withUnused}
 use Rattle.theory.specs.Tree as theory
 use Rattle.theory.specs.Tree.{Assumption, refusalNumber, ground, children, disagreement, touches, node}
-use Rattle.bits.specs.Word.{fullOf}
+use Rattle.bits.specs.Word.{fullOf, withoutOf}
 use Rattle.format.specs.Format.{ruleP, ruleQ, ruleP′, ruleQ′, ruleLayer, nodeKind, nodeParty, nodeArgument, nodeSet, treeOf, weightsOf}
 use Rattle.format.specs.declared.Sizes.{Sizes}
-use Rattle.facts.specs.Facts.{factsOf}
+use Rattle.facts.specs.Facts.{factsOf, inWord}
+use Rattle.node.specs.declared.Flow.{Flow}
 use Rattle.node.specs.declared.Node.{Node}
 use Rattle.node.specs.declared.Outcome.{Outcome}
 use Rattle.node.specs.declared.Outcome.the-variants.{Refused, Closed, Child, Children}
@@ -66,12 +68,27 @@ keeps reversed rules A r =
 unfoldable pub isTrapOf : Bool → Sizes → List ℕ → (ℕ → Bool) → (ℕ → Bool) → Bool
 isTrapOf reversed z rules unused A = allBelow (z .rules) (λ r. unused r || keeps reversed rules A r)
 
--- What a node needs of tests 3 and 6: states and rules are so few that words hold them, and the before pairs are states.
+-- The rules that pass f.
+unfoldable pub rulesIn : Sizes → (ℕ → Bool) → ℕ → Bool
+rulesIn z f r = ltb r (z .rules) && f r
+
+-- The words of f have, of the 64 rules from 64 q on, those that take from the set A and those that put into it.
+pub record FlowAt (z : Sizes) (rules : List ℕ) (A : ℕ → Bool) (q : ℕ) (f : Flow) : Type 0 where
+  pub taking : member (f .taking) ≡ inWord q (rulesIn z (takesFrom rules A))
+  pub putting : member (f .putting) ≡ inWord q (rulesIn z (putsInto rules A))
+
+-- The rules that take from a set and put nothing into it; with reversed, those that put into it and take nothing from it.
+unfoldable pub breakingOf : Bool → Flow → ℕ → Bool
+breakingOf reversed f = cond reversed (withoutOf (f .putting) (f .taking)) (withoutOf (f .taking) (f .putting))
+
+-- What a node needs of tests 3 and 6: states and rules are so few that words hold them, and the states of a rule are below 64.
 pub record SoundRules (z : Sizes) (rules : List ℕ) : Type 0 where
   pub states-most : z .states ≤ 64
   pub rules-most : z .rules ≤ 256
   pub p-lt : (r : ℕ) → r < z .rules → ruleP rules r < 64
   pub q-lt : (r : ℕ) → r < z .rules → ruleQ rules r < 64
+  pub p′-lt : (r : ℕ) → r < z .rules → ruleP′ rules r < 64
+  pub q′-lt : (r : ℕ) → r < z .rules → ruleQ′ rules r < 64
 
 -- ---- What a node comes to
 

@@ -2,7 +2,7 @@
 ghost use mathlib.Core.Path.{_≡_};
 ghost use mathlib.Core.Bool.{true, _&&_};
 ghost use mathlib.Core.List.{[], _∷_};
-ghost use Prim.Native.Nat.{_≤_};
+ghost use Prim.Native.Nat.{_≤_, _<_};
 ghost use lib.Dec.{eqb, ltb};
 ghost use Rattle.theory.specs.Test.{member};
 ghost use Rattle.theory.specs.Facts.{withAbsent, withPresent, withUnused};
@@ -10,7 +10,7 @@ ghost use Rattle.theory.specs.Leaf.{leafCloses};
 ghost use Rattle.theory.specs.Tree.{touches, within};
 ghost use Rattle.format.specs.Format.{ruleP, ruleQ, weightsOf};
 ghost use Rattle.facts.specs.Facts.{factsOf, onlyIf};
-ghost use Rattle.node.specs.Node.{among, assumedOf, nodeOf, nodeTable, SoundRules, check, settled, turnBy, turnOf, leafFields, runFields, stateFields, ruleFields, setFields, disabledChildren, setChild, takesFrom, putsInto, keeps, isTrapOf, turnAt};
+ghost use Rattle.node.specs.Node.{among, assumedOf, nodeOf, nodeTable, SoundRules, check, settled, turnBy, turnOf, leafFields, runFields, stateFields, ruleFields, setFields, disabledChildren, setChild, isTrapOf, FlowAt, breakingOf, turnAt};
 use facts::Facts;
 use format::Sizes;
 
@@ -35,6 +35,18 @@ pub struct Step {
     pub outcome: Outcome,
     pub first: Facts,
     pub second: Facts,
+}
+
+// Of the 64 rules from 64 word on, those that take from a set and those that put into it: member i is rule 64 word + i.
+struct Flow {
+    taking: u64,
+    putting: u64,
+}
+
+// Whether a set is a trap, or a siphon, and the facts of the child.
+struct Tested {
+    trap: bool,
+    child: Facts,
 }
 
 fn node_at(nodes: &[u8], i: u16) -> Node
@@ -151,63 +163,65 @@ fn split_step(z: Sizes, n: Node, facts: Facts) -> Step
     settle(fields, true, Outcome::Children, first, second)
 }
 
-fn rule_takes(rules: &[u8], set: u64, r: u16) -> bool
-    ensures { λ t. ⌜ t ≡ takesFrom (now (rules .entry)) (member set) r ⌝ }
+// The rules from 64 word on that take from the set and those that put into it.
+fn word_flow(rules: &[u8], z: Sizes, set: u64, word: u16) -> Flow
+    requires { ⌜ SoundRules z (now rules) ⌝ }
+    requires { ⌜ word < 4 ⌝ }
+    ensures { λ f. ⌜ FlowAt z (now (rules .entry)) (member set) word f ⌝ }
 {
-    bits::has(set, format::rule_p(rules, r)) | bits::has(set, format::rule_q(rules, r))
+    let mut taking: u64 = 0;
+    let mut putting: u64 = 0;
+    let mut i: u16 = 0;
+    while i < 64 {
+        let r = 64 * word + i;
+        if z.rules <= r {
+            break;
+        }
+        let t = format::read_rule(rules, r);
+        let takes = bits::has_below(set, t.p) | bits::has_below(set, t.q);
+        let puts = bits::has_below(set, t.p2) | bits::has_below(set, t.q2);
+        taking = bits::with_if(taking, takes, i as usize);
+        putting = bits::with_if(putting, puts, i as usize);
+        i += 1;
+    }
+    Flow { taking, putting }
 }
 
-fn rule_puts(rules: &[u8], set: u64, r: u16) -> bool
-    ensures { λ t. ⌜ t ≡ putsInto (now (rules .entry)) (member set) r ⌝ }
+// The rules that take from the set and put nothing into it; with reversed, those that put into it and take nothing from it.
+fn breaking(f: Flow, reversed: bool) -> u64
+    ensures { λ r. ⌜ member r ≡ breakingOf reversed f ⌝ }
 {
-    bits::has(set, format::rule_p_after(rules, r)) | bits::has(set, format::rule_q_after(rules, r))
-}
-
-// Whether the rule puts into the set if it takes from it; with reversed, the other way round.
-fn rule_keeps(rules: &[u8], set: u64, reversed: bool, r: u16) -> bool
-    ensures { λ t. ⌜ t ≡ keeps reversed (now (rules .entry)) (member set) r ⌝ }
-{
-    let takes = rule_takes(rules, set, r);
-    let puts = rule_puts(rules, set, r);
     if reversed {
-        return !puts | takes;
+        return bits::without(f.putting, f.taking);
     }
-    !takes | puts
+    bits::without(f.taking, f.putting)
 }
 
-// Whether the set is a trap of the rules that are not unused in the run; with reversed, of the reversed rules: a siphon.
-fn is_trap(rules: &[u8], z: Sizes, facts: Facts, run: usize, set: u64, reversed: bool) -> bool
-    ensures { λ t. ⌜ t ≡ isTrapOf reversed z (now (rules .entry)) (factsOf facts .unused run) (member set) ⌝ }
+// Whether the set is a trap of the rules that are not unused in the run; with reversed, of the reversed rules: a siphon. The child has the facts of `marked`, and in the run the rules that touch the set are unused.
+fn test_set(
+    rules: &[u8],
+    z: Sizes,
+    facts: Facts,
+    marked: Facts,
+    run: usize,
+    set: u64,
+    reversed: bool,
+) -> Tested
+    requires { ⌜ SoundRules z (now rules) ⌝ }
+    ensures { λ t. ⌜ t .trap ≡ isTrapOf reversed z (now (rules .entry)) (factsOf facts .unused run) (member set) ⌝ }
+    ensures { λ t. ⌜ factsOf (t .child) ≡ withUnused (factsOf marked) run (onlyIf (ltb run 3) (touches (nodeTable z (now (rules .entry)) 0) (member set))) ⌝ }
 {
-    let mut r: u16 = 0;
-    while r < z.rules {
-        if !rule_keeps(rules, set, reversed, r) {
-            if !facts.is_unused(run, r) {
-                return false;
-            }
-        }
-        r += 1;
+    let mut trap = true;
+    let mut child = marked;
+    let mut word: u16 = 0;
+    while 64 * word < z.rules {
+        let f = word_flow(rules, z, set, word);
+        let unused = facts.unused(run, word as usize);
+        trap = trap & bits::subset(breaking(f, reversed), unused);
+        child = child.mark_unused(run, word as usize, bits::union(f.taking, f.putting));
+        word += 1;
     }
-    true
-}
-
-// The rules that touch the set are unused in the run.
-fn mark_touching(rules: &[u8], z: Sizes, facts: Facts, run: usize, set: u64) -> Facts
-    requires { ⌜ z .rules ≤ 256 ⌝ }
-    ensures { λ x. ⌜ factsOf x ≡ withUnused (factsOf facts) run (onlyIf (ltb run 3) (touches (nodeTable z (now (rules .entry)) 0) (member set))) ⌝ }
-{
-    if 3 <= run {
-        return facts;
-    }
-    let mut marked = facts;
-    let mut r: u16 = 0;
-    while r < z.rules {
-        if rule_takes(rules, set, r) | rule_puts(rules, set, r) {
-            marked = marked.mark_unused(run, r);
-        }
-        r += 1;
-    }
-    marked
+    Tested { trap, child }
 }
 
 // Kinds 5 and 6: a trap that is absent at its end was absent at the start; with reversed, a siphon that is absent at the start is absent at its end. The rules that touch it are unused.
@@ -227,10 +241,9 @@ fn set_step(
     let within = bits::subset(n.set, bits::full(z.states as usize));
     let fields = (1 <= n.party) & (n.party <= 2) & (n.argument == 0) & ((0 < n.set) & within);
     let absent = bits::subset(n.set, facts.absent(from));
-    let trap = is_trap(rules, z, facts, n.party, n.set, reversed);
     let marked = facts.mark_absent(to, n.set);
-    let child = mark_touching(rules, z, marked, n.party, n.set);
-    settle(fields, absent & trap, Outcome::Child, child, child)
+    let t = test_set(rules, z, facts, marked, n.party, n.set, reversed);
+    settle(fields, absent & t.trap, Outcome::Child, t.child, t.child)
 }
 
 // Node i on the facts, by its kind.

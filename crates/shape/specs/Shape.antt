@@ -5,9 +5,10 @@ use Prim.Native.Nat.{ℕ, _+_, _/_, _%_}
 use lib.Dec.{leb, ltb, eqb}
 use lib.ListN.{length, getD}
 use Rattle.theory.specs.Below.{anyBelow}
-use Rattle.format.specs.Format.{headerOf, statesLength, rulesLength, layersLength, nodesLength, leavesLength, partsOf, flags, ruleP, ruleQ, ruleP′, ruleQ′, ruleLayer, layerWeight}
+use Rattle.format.specs.Format.{headerOf, statesLength, rulesLength, layersLength, nodesLength, leavesLength, partsOf, flags, ruleP, ruleQ, ruleLayer, ruleOf, layerWeight}
 use Rattle.format.specs.declared.Sizes.{Sizes}
 use Rattle.format.specs.declared.Header.{Header}
+use Rattle.format.specs.declared.Rule.{Rule as Fields}
 use Rattle.shape.specs.Judge.{Test, only, judge}
 use Rattle.shape.specs.declared.Property.{Property}
 use Rattle.shape.specs.declared.Property.the-variants.{Flags, Input, Rule, Pair, Layer, Weight}
@@ -73,20 +74,27 @@ unfoldable pub badState : Sizes → List ℕ → ℕ → Bool
 badState z states s = ltb s (z .states) && otherBits states s || eqb s (z .states) && not (anyBelow (z .states) (isInput states))
 
 -- Test 6: a state ≥ S, a pair out of order, pairs equal, or a layer ≥ L.
+abbrev pub badFields : Sizes → Fields → Bool
+badFields z x =
+    leb (z .states) (x .p)
+    || leb (z .states) (x .q)
+    || leb (z .states) (x .p2)
+    || leb (z .states) (x .q2)
+    || ltb (x .q) (x .p)
+    || ltb (x .q2) (x .p2)
+    || eqb (x .p) (x .p2) && eqb (x .q) (x .q2)
+    || leb (z .layers) (x .layer)
+
 abbrev pub badRule : Sizes → List ℕ → ℕ → Bool
-badRule z rules r =
-    leb (z .states) (ruleP rules r)
-    || leb (z .states) (ruleQ rules r)
-    || leb (z .states) (ruleP′ rules r)
-    || leb (z .states) (ruleQ′ rules r)
-    || ltb (ruleQ rules r) (ruleP rules r)
-    || ltb (ruleQ′ rules r) (ruleP′ rules r)
-    || eqb (ruleP rules r) (ruleP′ rules r) && eqb (ruleQ rules r) (ruleQ′ rules r)
-    || leb (z .layers) (ruleLayer rules r)
+badRule z rules r = badFields z (ruleOf rules r)
 
 -- Test 7: an earlier rule has the same before pair.
 unfoldable pub repeats : List ℕ → ℕ → Bool
 repeats rules r = anyBelow r (samePair rules r)
+
+-- The layers below 64 that one of the first n rules is in.
+unfoldable pub usedBelow : List ℕ → ℕ → ℕ → Bool
+usedBelow rules n l = ltb l 64 && anyBelow n (inLayer rules l)
 
 -- Test 8: no rule in the layer, or a weight too large.
 unfoldable pub badLayer : Sizes → List ℕ → List ℕ → ℕ → Bool

@@ -5,8 +5,9 @@ ghost use mathlib.Core.List.{[], _∷_};
 ghost use Prim.Native.Nat.{_+_};
 ghost use lib.Dec.{eqb, ltb};
 ghost use lib.ListN.{length};
-ghost use Rattle.theory.specs.Below.{firstBelow};
-ghost use Rattle.shape.specs.Shape.{countFaults, offsetFaults, nth, badState, badRule, repeats, badLayer, partOutcome, asShape, headerShape, shapeOf, numberOf, placeOf, holdsOf};
+ghost use Rattle.theory.specs.Test.{member};
+ghost use Rattle.theory.specs.Below.{anyBelow, firstBelow};
+ghost use Rattle.shape.specs.Shape.{countFaults, offsetFaults, nth, badState, badRule, repeats, inLayer, usedBelow, badLayer, partOutcome, asShape, headerShape, shapeOf, numberOf, placeOf, holdsOf};
 use facts::Facts;
 use format::Header;
 use format::Sizes;
@@ -106,21 +107,17 @@ fn offset_fault(h: Header) -> u32
 fn rule_bad(rules: &[u8], z: Sizes, r: u16) -> bool
     ensures { λ t. ⌜ t ≡ badRule z (now (rules .entry)) r ⌝ }
 {
-    let p = format::rule_p(rules, r);
-    let q = format::rule_q(rules, r);
-    let p2 = format::rule_p_after(rules, r);
-    let q2 = format::rule_q_after(rules, r);
-    let l = format::rule_layer(rules, r);
+    let t = format::read_rule(rules, r);
     let n = z.states as usize;
     let m = z.layers as usize;
-    (n <= p)
-        | (n <= q)
-        | (n <= p2)
-        | (n <= q2)
-        | (q < p)
-        | (q2 < p2)
-        | (p == p2) & (q == q2)
-        | (m <= l)
+    (n <= t.p)
+        | (n <= t.q)
+        | (n <= t.p2)
+        | (n <= t.q2)
+        | (t.q < t.p)
+        | (t.q2 < t.p2)
+        | (t.p == t.p2) & (t.q == t.q2)
+        | (m <= t.layer)
 }
 
 // Whether record i of the section x has the property.
@@ -195,20 +192,45 @@ fn repeat_fault(rules: &[u8], z: Sizes) -> u16
     i
 }
 
-fn layer_bad(rules: &[u8], layers: &[u8], z: Sizes, l: u16) -> bool
+// The layers below 64 that have a rule.
+fn used_layers(rules: &[u8], z: Sizes) -> u64
+    ensures { λ w. ⌜ member w ≡ usedBelow (now (rules .entry)) (z .rules) ⌝ }
+{
+    let mut used: u64 = 0;
+    let mut r: u16 = 0;
+    while r < z.rules {
+        used = bits::with_if(used, true, format::rule_layer(rules, r));
+        r += 1;
+    }
+    used
+}
+
+// Whether layer l has a rule. Only for layers from 64 on, of which no docket has one, it is searched for.
+fn layer_used(rules: &[u8], z: Sizes, used: u64, l: u16) -> bool
+    requires { ⌜ member used ≡ usedBelow (now rules) (z .rules) ⌝ }
+    ensures { λ t. ⌜ t ≡ anyBelow (z .rules) (inLayer (now (rules .entry)) l) ⌝ }
+{
+    if l < 64 {
+        return bits::has(used, l as usize);
+    }
+    first(rules, z, Property::Layer(l), z.rules) < z.rules
+}
+
+fn layer_bad(rules: &[u8], layers: &[u8], z: Sizes, used: u64, l: u16) -> bool
+    requires { ⌜ member used ≡ usedBelow (now rules) (z .rules) ⌝ }
     ensures { λ t. ⌜ t ≡ badLayer z (now (rules .entry)) (now (layers .entry)) l ⌝ }
 {
-    !(first(rules, z, Property::Layer(l), z.rules) < z.rules)
-        | (first(layers, z, Property::Weight(l), z.states) < z.states)
+    !layer_used(rules, z, used, l) | (first(layers, z, Property::Weight(l), z.states) < z.states)
 }
 
 // Test 8: the first layer with no rule or with a weight too large, or the number of layers.
 fn layer_fault(rules: &[u8], layers: &[u8], z: Sizes) -> u16
     ensures { λ i. ⌜ i ≡ firstBelow (z .layers) (badLayer z (now (rules .entry)) (now (layers .entry))) ⌝ }
 {
+    let used = used_layers(rules, z);
     let mut i: u16 = 0;
     while i < z.layers {
-        if layer_bad(rules, layers, z, i) {
+        if layer_bad(rules, layers, z, used, i) {
             return i;
         }
         i += 1;

@@ -1,10 +1,10 @@
 -- The members of a number, what the operations on words do to them, and sets in arrays of words. Where a law needs no bound it is of every number. Assumes nothing.
 use mathlib.Core.Path.{_≡_, refl, sym, ap, _∙_, fun-ext}
-use mathlib.Core.Bool.{Bool, true, false, not, _&&_, _||_, Bool·beq, and-false, and-true, and-comm, or-comm}
+use mathlib.Core.Bool.{Bool, true, false, not, _&&_, _||_, Bool·beq, and-false, and-true, and-comm, or-comm, or-false}
 use mathlib.Core.List.{List}
 use mathlib.Core.Logic.{by-cases}
 use Prim.Native.Nat.{ℕ, zero, suc, _+_, _-_, _*_, _/_, _%_, _^_, _≤_, _<_, min, max}
-use native.Mathlib.Nat.{mod-lt, pow-suc, pow-zero, zero-div, div-one, div-eq-of-lt, lt-of-lt-of-le, one-mul}
+use native.Mathlib.Nat.{zero-mul, mod-lt, pow-suc, pow-zero, zero-div, div-one, div-eq-of-lt, lt-of-lt-of-le, one-mul}
 use native.Mathlib.Numerals.{one-add}
 use native.Mathlib.Decide.{decLt}
 use native.Mathlib.Omega.{arith}
@@ -21,7 +21,7 @@ use Rattle.theory.specs.Test.Laws.{by-test, not-both, is-false, and-elim, beq-t
 use Rattle.theory.specs.Below.{allBelow, firstBelow, sumBelow}
 use Rattle.theory.specs.Below.Laws.{all-elim, all-intro, all-fails, sum-front}
 use Rattle.theory.specs.Facts.{extend}
-use Rattle.bits.specs.Word.{singleOf, fullOf, unionOf, withoutOf, inWords}
+use Rattle.bits.specs.Word.{singleOf, fullOf, unionOf, withIf, withoutOf, inWords}
 
 -- ---- The lowest digit and the others
 
@@ -208,6 +208,23 @@ full-all n h =
 pub union-is : (a b : ℕ) → member (bitOr a b) ≡ unionOf a b
 union-is a b = fun-ext (member-or a b)
 
+zero-times : (m : ℕ) → 0 * m % 2 ^ 64 ≡ 0
+zero-times m = rw (zero-mul m)
+
+-- The bit of a test at place i.
+pub with-if-is : (t : Bool) (i w u v : ℕ) → i < 64 → u ≡ bit t * 2 ^ i % 2 ^ 64 → member v ≡ unionOf w u → member v ≡ withIf t i w
+unfolding withIf
+with-if-is true i w u v h e d = let o : member u ≡ singleOf i = rw e (single-is i h) in d ∙ fun-ext (λ j. ap (λ (A : ℕ → Bool). member w j || A j) o)
+with-if-is false i w u v h e d = let z : u ≡ 0 = e ∙ zero-times (2 ^ i) in d ∙ fun-ext (λ j. ap (λ b. member w j || b) (rw z (member-none j)))
+
+pub with-if-none : (t : Bool) (i w : ℕ) → 64 ≤ i → member w ≡ withIf t i w
+unfolding withIf
+with-if-none t i w h = fun-ext (λ j. sym (ap (λ b. member w j || b) (none t (singleOf i j) (sym (ap (λ (A : ℕ → Bool). A j) (single-none i h)) ∙ member-none j)) ∙ or-false (member w j)))
+  where
+    none : (t b : Bool) → b ≡ false → t && b ≡ false
+    none true b e = e
+    none false b e = refl
+
 pub without-is : (a b : ℕ) → a < 2 ^ 64 → b < 2 ^ 64 → member (bitAnd a (2 ^ 64 - 1 - b)) ≡ withoutOf a b
 without-is a b ha hb =
     fun-ext
@@ -301,24 +318,6 @@ module _ (n : ℕ) (ws : List ℕ) (k q v u : ℕ) (within : q < n) (room : n * 
 
   pub words-join : inWords n (set ws (n * k + q) v) ≡ extend (inWords n ws) k (λ i. eqb (i / 64) q && member u (i % 64))
   words-join = fun-ext (λ j. fun-ext (join-at j))
-
-same-number : (i s : ℕ) → eqb (s / 64) (i / 64) && eqb (i % 64) (s % 64) ≡ eqb i s
-same-number i s =
-    by-test (eqb i s)
-    (λ e. rw (← eqb-true i s e, eq-eqb (i / 64) (i / 64) refl, eq-eqb (i % 64) (i % 64) refl, eq-eqb i i refl))
-    (λ e.
-    is-false _
-    (λ t.
-    let a = and-elim (eqb (s / 64) (i / 64)) _ t in
-    eqb-false i s e (omega (arith, eqb-true (s / 64) (i / 64) (a .0), eqb-true (i % 64) (s % 64) (a .1))))
-    ∙ sym e)
-
--- i joins set k.
-pub words-add : (n : ℕ) (ws : List ℕ) (k i v u : ℕ) → i < 64 * n → n * k + i / 64 < length ws → member u ≡ singleOf (i % 64)
-    → member v ≡ unionOf (getD ws (n * k + i / 64) 0) u → inWords n (set ws (n * k + i / 64) v) ≡ extend (inWords n ws) k (eqb i)
-words-add n ws k i v u l room one joined =
-    words-join n ws k (i / 64) v u (omega arith) room joined
-    ∙ ap (extend (inWords n ws) k) (fun-ext (λ s. rw (one ∙ single-below (i % 64) (omega arith)) (same-number i s)))
 
 one-word : (u i : ℕ) → u < 2 ^ 64 → eqb (i / 64) 0 && member u (i % 64) ≡ member u i
 one-word u i h =

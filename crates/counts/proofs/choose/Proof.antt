@@ -1,14 +1,9 @@
 -- `counts::choose` meets its contract: the best of the rules below `r` is known.
-use mathlib.Core.Path.{_≡_}
-use mathlib.Core.Bool.{false}
 use mathlib.Core.Logic.{inl, inr}
-use Prim.Native.Nat.{_-_}
-use native.Mathlib.Omega.{arith}
+use Prim.Native.Nat.{_-_, _<_}
 use borrow.Author.Needs.{needs}
-use Rattle.theory.specs.Test.Laws.{not-both}
-use Rattle.theory.specs.Protocol.{enabled}
 use Rattle.format.specs.Format.{tableOf}
-use Rattle.counts.specs.Counts.Laws.{Best, best-none, best-skip, best-take, best-lowest, best-done}
+use Rattle.counts.specs.Counts.Laws.{Best, best-none, best-done, turn-above, turn-off, turn-take, turn-lowest}
 use Rattle.counts.proofs.choose.Statement.{statement}
 use Rattle.counts.proofs.choose.Tie as tie
 
@@ -27,17 +22,19 @@ add-low c = search needs
 loop-holds : tie.Need-loop-holds Inv-loop μ-loop
 loop-holds c = best-none _ _
 
-rule-layer-requires : tie.Need-rule-layer-requires Inv-loop μ-loop
-rule-layer-requires c κs = search needs
+read-rule-requires : tie.Need-read-rule-requires Inv-loop μ-loop
+read-rule-requires c κs = search needs
 
-enabled-requires : tie.Need-enabled-requires Inv-loop μ-loop
-enabled-requires c κs = search needs
+pair-enabled-requires : tie.Need-pair-enabled-requires Inv-loop μ-loop
+pair-enabled-requires c κs = search needs
 
 returns : tie.Need-returns Inv-loop μ-loop
 returns c =
-    let i = c .before .before .before .before .before .before .before .loop in
-    let l = c .before .before .before .before .rule-layer in
-    best-lowest _ _ (i .r) (i .best) (i .low) (i .inv) (search needs) (l .result) (l .ensures .is) (search needs) (search needs) (cc)
+    let i = c .before .before .before .before .before .before .before .before .before .loop in
+    let x = c .before .before .before .before .before .before .read-rule in
+    let t = c .before .before .before .pair-enabled in
+    let a = c .before .before .before .before .before .before .before .before .before .before .before .before .before .args in
+    turn-lowest (a .z) (a .rules .now) (a .counts .now) (i .r) (i .best) (i .low) (x .result) (i .inv) (search needs) (x .ensures) (t .result) (t .ensures) (search needs) (search needs) (search needs)
 
 add-r : tie.Need-add-r Inv-loop μ-loop
 add-r c = search needs
@@ -47,19 +44,16 @@ loop-less c = search needs
 
 loop-again : tie.Need-loop-again Inv-loop μ-loop
 loop-again c =
-    let z = c .before .before .before .before .before .before .before .before in
-    let P = tableOf (z .args .z) (z .args .rules .now) in
-    let d = z .args .counts .now in
-    let i = c .before .before .before .before .loop in
-    let l = c .before .rule-layer in
+    let i = c .before .before .before .before .before .loop in
+    let x = c .before .before .read-rule in
+    let a = c .before .before .before .before .before .before .before .before .before .args in
+    let l : i .r < a .z .rules = search needs in
     elim (c .if2 .came) [
-      | inl w ↦ rw (w .4, w .5) (best-take P d (i .r) (i .best) (i .low) (i .inv) (omega arith) (l .result) (l .ensures .is) (w .0 .taken) (cc))
+      | inl w ↦ rw (w .5, w .6) (turn-take (a .z) (a .rules .now) (a .counts .now) (i .r) (i .best) (i .low) (x .result) (i .inv) l (x .ensures) (w .1 .result) (w .1 .ensures) (w .0 .taken) (w .2 .taken))
       | inr v ↦
           elim v [
-            | inl w ↦
-                (let off : enabled P d (i .r) ≡ false = cc in
-                rw (w .3, w .4) (best-skip P d (i .r) (i .best) (i .low) (i .inv) (omega arith) (λ e. absurd (not-both e off))))
-            | inr w ↦ rw (w .1, w .2) (best-skip P d (i .r) (i .best) (i .low) (i .inv) (omega arith) (λ e. omega (arith, l .ensures .is)))
+            | inl w ↦ rw (w .3, w .4) (turn-off (a .z) (a .rules .now) (a .counts .now) (i .r) (i .best) (i .low) (x .result) (i .inv) l (x .ensures) (w .1 .result) (w .1 .ensures) (w .2 .left))
+            | inr w ↦ rw (w .1, w .2) (turn-above (a .z) (a .rules .now) (a .counts .now) (i .r) (i .best) (i .low) (x .result) (i .inv) l (x .ensures) (w .0 .left))
           ]
     ]
 
@@ -75,8 +69,8 @@ choose-spec =
     cast-low
     add-low
     loop-holds
-    rule-layer-requires
-    enabled-requires
+    read-rule-requires
+    pair-enabled-requires
     returns
     add-r
     loop-less

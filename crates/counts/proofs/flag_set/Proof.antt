@@ -20,6 +20,9 @@ loop-holds c = (search needs, that-none _)
 has-flag-requires : tie.Need-has-flag-requires Inv-loop μ-loop
 has-flag-requires c κs = search needs
 
+cast-with-if : tie.Need-cast-with-if Inv-loop μ-loop
+cast-with-if c = search needs
+
 with-if-requires : tie.Need-with-if-requires Inv-loop μ-loop
 with-if-requires c κs = search needs
 
@@ -43,6 +46,7 @@ flag-set-spec =
     μ-loop
     loop-holds
     has-flag-requires
+    cast-with-if
     with-if-requires
     add-i
     loop-less

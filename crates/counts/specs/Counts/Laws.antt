@@ -12,7 +12,7 @@ use lib.Dec.{ltb, eqb}
 use lib.ListN.{length, getD, set, List·getD-eq-default}
 use lib.Seq.{getD-set-same, getD-set-other, set-getD, set-out}
 use Rattle.theory.specs.Test.{member}
-use Rattle.theory.specs.Test.Laws.{by-test, is-false, and-intro}
+use Rattle.theory.specs.Test.Laws.{not-both, by-test, is-false, and-intro}
 use Rattle.theory.specs.Below.{sumBelow, firstBelow}
 use Rattle.theory.specs.Below.Laws.{below-suc, sum-same, any-elim, any-intro, first-is}
 use Rattle.theory.specs.Weigh.Laws.{weigh-sum, weigh-at}
@@ -20,12 +20,12 @@ use Rattle.theory.specs.Protocol.{Protocol, count, size, lose, gain, enabled}
 use Rattle.theory.specs.Ladder.{enabledIn, active, lowest}
 use Rattle.theory.specs.Ladder.Layers.{enabledIn-elim}
 use Rattle.theory.specs.Machine.{isSized, isWithin, admit, chosen}
-use Rattle.bits.specs.Word.{singleOf, unionOf}
+use Rattle.bits.specs.Word.{withIf}
 use Rattle.bits.specs.Word.Laws.{member-none}
-use Rattle.format.specs.Bytes.{Value}
-use Rattle.format.specs.Format.{ruleP, ruleQ, tableOf}
+use Rattle.format.specs.Format.{ruleLayer, ruleOf, tableOf}
 use Rattle.format.specs.declared.Sizes.{Sizes}
-use Rattle.counts.specs.Counts.{countsFault, statesThat, withIf}
+use Rattle.format.specs.declared.Rule.{Rule}
+use Rattle.counts.specs.Counts.{countsFault, pairEnabled, statesThat}
 
 -- ---- One count
 
@@ -129,24 +129,31 @@ module _ (z : Sizes) (c : List ℕ) where
 
 -- ---- Enabled
 
-module _ (z : Sizes) (rules c : List ℕ) (r m a b n : ℕ) (t : Bool) (ha : Value m (ruleP rules r) a) (hb : Value m (ruleQ rules r) b) (e : t ≡ eqb a b) (g : n ≡ getD c a 0) where
-  same : eqb (ruleP rules r) (ruleQ rules r) ≡ t
-  same = sym (e ∙ ap (λ k. eqb k b) (ha .is) ∙ ap (eqb (ruleP rules r)) (hb .is))
+-- The three cases of a before pair, n being the count of p.
+module _ (c : List ℕ) (p q n : ℕ) (held : n ≡ getD c p 0) where
+  abbrev by-same : Bool → Bool
+  by-same t = elim t [ true ↦ ltb 1 (getD c p 0) | false ↦ ltb 0 (getD c p 0) && ltb 0 (getD c q 0) ]
 
-  here : getD c (ruleP rules r) 0 ≡ n
-  here = sym (g ∙ ap (λ k. getD c k 0) (ha .is))
+  none : (t : Bool) → n < 1 → false ≡ by-same t
+  none true l = rw (← held, le-ltb 1 n (omega arith))
+  none false l = rw (← held, le-ltb 0 n (omega arith))
 
-  pub on-same : t ≡ true → ltb 1 n ≡ enabled (tableOf z rules) c r
-  unfolding enabled
-  on-same d = rw (same, d, here, enabled)
+  pub pair-empty : n < 1 → false ≡ pairEnabled c p q
+  pair-empty = none (eqb p q)
 
-  pub on-empty : t ≡ false → n ≤ 0 → false ≡ enabled (tableOf z rules) c r
-  unfolding enabled
-  on-empty d l = rw (same, d, here, le-ltb 0 n l, enabled)
+  pub pair-same : (t : Bool) → t ≡ eqb p q → t ≡ true → ltb 1 n ≡ pairEnabled c p q
+  pair-same t e d = ap (ltb 1) held ∙ ap by-same (sym d ∙ e)
 
-  pub on-other : (k : ℕ) → t ≡ false → 0 < n → k ≡ getD c b 0 → ltb 0 k ≡ enabled (tableOf z rules) c r
-  unfolding enabled
-  on-other k d l q = rw (same, d, here, lt-ltb 0 n l, ← ap (λ j. getD c j 0) (hb .is), ← q, enabled)
+  both : (k : ℕ) → 1 ≤ n → k ≡ getD c q 0 → ltb 0 k ≡ by-same false
+  both k l h = rw (← held, lt-ltb 0 n l, ← h)
+
+  pub pair-other : (t : Bool) (k : ℕ) → t ≡ eqb p q → t ≡ false → 1 ≤ n → k ≡ getD c q 0 → ltb 0 k ≡ pairEnabled c p q
+  pair-other t k e d l h = both k l h ∙ ap by-same (sym d ∙ e)
+
+-- A rule is enabled where its before pair is.
+pub rule-enabled : (z : Sizes) (rules c : List ℕ) (r : ℕ) (x : Rule) (t : Bool) → x ≡ ruleOf rules r → t ≡ pairEnabled c (x .p) (x .q) → t ≡ enabled (tableOf z rules) c r
+unfolding enabled
+rule-enabled z rules c r x t e h = h ∙ ap (λ (y : Rule). pairEnabled c (y .p) (y .q)) e
 
 -- ---- The rule that a run uses
 
@@ -228,6 +235,27 @@ module _ (P : Protocol) (c : List ℕ) where
       (λ f. sym (chosen-at best (omega (arith, f .0, h .within)) (f .1) (omega (arith, f .2, f .3)) (λ k l e. omega (arith, least k l e, f .2)) (λ k l e. omega (arith, f .4 k l e, f .2))))
       (h .found)
 
+-- A turn of the scan, x being rule r and t whether its before pair is enabled.
+module _ (z : Sizes) (rules c : List ℕ) (r best low : ℕ) (x : Rule) (h : Best (tableOf z rules) c r best low) (l : r < z .rules) (e : x ≡ ruleOf rules r) where
+  layer-is : x .layer ≡ ruleLayer rules r
+  layer-is = ap (λ (y : Rule). y .layer) e
+
+  pub turn-above : low ≤ x .layer → Best (tableOf z rules) c (r + 1) best low
+  turn-above m = best-skip (tableOf z rules) c r best low h l (λ _. omega (arith, layer-is))
+
+  module _ (t : Bool) (d : t ≡ pairEnabled c (x .p) (x .q)) where
+    on : t ≡ enabled (tableOf z rules) c r
+    on = rule-enabled z rules c r x t e d
+
+    pub turn-off : t ≡ false → Best (tableOf z rules) c (r + 1) best low
+    turn-off u = best-skip (tableOf z rules) c r best low h l (λ v. absurd (not-both v (sym on ∙ u)))
+
+    pub turn-take : x .layer < low → t ≡ true → Best (tableOf z rules) c (r + 1) r (x .layer)
+    turn-take m u = best-take (tableOf z rules) c r best low h l (x .layer) layer-is m (sym on ∙ u)
+
+    pub turn-lowest : x .layer < low → x .layer ≡ 0 → t ≡ true → r ≡ chosen (tableOf z rules) c
+    turn-lowest m n u = best-lowest (tableOf z rules) c r best low h l (x .layer) layer-is m n (sym on ∙ u)
+
 -- ---- Sets of states
 
 and-false : (x : Bool) → false ≡ x && false
@@ -262,7 +290,7 @@ module _ (f : ℕ → Bool) where
   unfolding statesThat
   that-none = fun-ext (λ s. member-none s ∙ rw (le-ltb s 0 (omega arith)) (and-false (ltb s 64)))
 
-  pub that-more : (i w v : ℕ) (t : Bool) → member w ≡ statesThat f i → t ≡ f i → member v ≡ withIf t i (member w) → member v ≡ statesThat f (i + 1)
+  pub that-more : (i w v : ℕ) (t : Bool) → member w ≡ statesThat f i → t ≡ f i → member v ≡ withIf t i w → member v ≡ statesThat f (i + 1)
   unfolding statesThat withIf
   that-more i w v t h e d =
       fun-ext
@@ -273,15 +301,3 @@ module _ (f : ℕ → Bool) where
 
   pub that-done : (i n w : ℕ) → member w ≡ statesThat f i → i ≤ n → n ≤ i → member w ≡ statesThat f n
   that-done i n w h l m = h ∙ ap (statesThat f) (let e : i ≡ n = omega arith in e)
-
-pub with-if-on : (s w u v : ℕ) (t : Bool) → t ≡ true → member u ≡ singleOf s → member v ≡ unionOf w u → member v ≡ withIf t s (member w)
-unfolding withIf
-with-if-on s w u v t e h d = rw e (d ∙ fun-ext (λ j. ap (λ A. member w j || A j) h))
-
-pub with-if-off : (s w : ℕ) (t : Bool) → t ≡ false → member w ≡ withIf t s (member w)
-unfolding withIf
-with-if-off s w t e = rw e (fun-ext (λ j. sym (go (member w j))))
-  where
-    go : (x : Bool) → x || false ≡ x
-    go true = refl
-    go false = refl

@@ -1,6 +1,6 @@
 -- Sets in the facts' words, marks, and the fresh facts. Assumes nothing.
 use mathlib.Core.Path.{_≡_, refl, sym, ap, _∙_, fun-ext}
-use mathlib.Core.Bool.{Bool, true, false, not, _&&_, _||_, and-false}
+use mathlib.Core.Bool.{Bool, true, false, not, _&&_, _||_, and-true, and-false, or-false}
 use mathlib.Core.List.{List, _∷_}
 use mathlib.Core.Logic.{by-cases}
 use Prim.Native.Nat.{ℕ, zero, suc, _+_, _*_, _/_, _%_, _^_, _≤_, _<_}
@@ -18,8 +18,8 @@ use Rattle.theory.specs.Protocol.{Protocol}
 use Rattle.theory.specs.Facts as theory
 use Rattle.theory.specs.Facts.{extend, withAbsent, withPresent, withAtMostOne, withUnused, fresh}
 use Rattle.bits.specs.Word.{singleOf, fullOf, unionOf, withoutOf, inWords}
-use Rattle.bits.specs.Word.Laws.{member-none, member-above, single-below, words-union, words-add}
-use Rattle.facts.specs.Facts.{factsOf, freshOf, onlyIf}
+use Rattle.bits.specs.Word.Laws.{member-none, member-above, single-below, words-union, words-join}
+use Rattle.facts.specs.Facts.{factsOf, freshOf, onlyIf, inWord, fromWord}
 
 -- ---- What the words say
 
@@ -45,16 +45,25 @@ word-is ws k h =
     rw (p, q, lt-ltb i (64 * 1) (omega arith)))
     (λ g. rw (member-above 64 (getD ws k 0) i (h .fits) (omega arith), le-ltb i (64 * 1) (omega arith))))
 
-pub run-past : (ws : List ℕ) (k i : ℕ) → length ws ≡ 12 → 3 ≤ k → false ≡ inWords 4 ws k i
-run-past ws k i n h = sym (past 4 ws k i (omega arith))
+pub words-past : (ws : List ℕ) (k q : ℕ) → length ws ≡ 12 → 3 ≤ k → member 0 ≡ inWord q (inWords 4 ws k)
+unfolding inWord
+words-past ws k q n h = fun-ext (λ i. member-none i ∙ sym (rw (past 4 ws k (64 * q + i) (omega arith)) (and-false (ltb i 64))))
 
-pub rule-past : (ws : List ℕ) (k i : ℕ) → 256 ≤ i → false ≡ inWords 4 ws k i
-unfolding inWords
-rule-past ws k i h = rw (le-ltb i (64 * 4) (omega arith))
+pub word-none : (ws : List ℕ) (k q : ℕ) → 4 ≤ q → member 0 ≡ inWord q (inWords 4 ws k)
+unfolding inWord inWords
+word-none ws k q h = fun-ext (λ i. member-none i ∙ sym (rw (le-ltb (64 * q + i) (64 * 4) (omega arith)) (and-false (ltb i 64))))
 
-pub rule-is : (ws : List ℕ) (k i : ℕ) (t : Bool) → i < 256 → t ≡ member (getD ws (4 * k + i / 64) 0) (i % 64) → t ≡ inWords 4 ws k i
-unfolding inWords
-rule-is ws k i t h e = rw (lt-ltb i (64 * 4) (omega arith)) e
+pub rules-word : (ws : List ℕ) (k q : ℕ) → q < 4 → Fits w64 (getD ws (4 * k + q) 0) → member (getD ws (4 * k + q) 0) ≡ inWord q (inWords 4 ws k)
+unfolding inWord inWords
+rules-word ws k q h f =
+    fun-ext
+    (λ i.
+    by-cases (decLt i 64)
+    (λ l.
+    let a : (64 * q + i) / 64 ≡ q = omega arith in
+    let b : (64 * q + i) % 64 ≡ i = omega arith in
+    rw (lt-ltb i 64 l, lt-ltb (64 * q + i) (64 * 4) (omega arith), a, b))
+    (λ g. rw (le-ltb i 64 (omega arith)) (member-above 64 (getD ws (4 * k + q) 0) i (f .fits) (omega arith))))
 
 -- ---- Sets marked under a test
 
@@ -65,8 +74,8 @@ only t A e = fun-ext (λ s. rw e)
 pub only-party : (k : ℕ) (A : ℕ → Bool) → k < 3 → onlyIf (ltb k 3) A ≡ A
 only-party k A h = only (ltb k 3) A (lt-ltb k 3 h)
 
-pub only-rule : (k r : ℕ) (A : ℕ → Bool) → k < 3 → r < 256 → onlyIf (ltb k 3 && ltb r 256) A ≡ A
-only-rule k r A h l = only (ltb k 3 && ltb r 256) A (rw (lt-ltb k 3 h, lt-ltb r 256 l))
+pub only-word : (k q : ℕ) (A : ℕ → Bool) → k < 3 → q < 4 → onlyIf (ltb k 3 && ltb q 4) A ≡ A
+only-word k q A h l = only (ltb k 3 && ltb q 4) A (rw (lt-ltb k 3 h, lt-ltb q 4 l))
 
 none-marked : (f : ℕ → ℕ → Bool) (k : ℕ) (t : Bool) (A : ℕ → Bool) → t ≡ false → f ≡ extend f k (onlyIf t A)
 unfolding extend onlyIf
@@ -75,20 +84,20 @@ none-marked f k t A e = fun-ext (λ j. fun-ext (λ s. rw (e, and-false (eqb j k)
 pub no-party : (f : ℕ → ℕ → Bool) (k : ℕ) (A : ℕ → Bool) → 3 ≤ k → f ≡ extend f k (onlyIf (ltb k 3) A)
 no-party f k A h = none-marked f k (ltb k 3) A (le-ltb k 3 h)
 
-pub no-run : (f : ℕ → ℕ → Bool) (k r : ℕ) (A : ℕ → Bool) → 3 ≤ k → f ≡ extend f k (onlyIf (ltb k 3 && ltb r 256) A)
-no-run f k r A h = none-marked f k (ltb k 3 && ltb r 256) A (rw (le-ltb k 3 h))
+pub no-run : (f : ℕ → ℕ → Bool) (k q : ℕ) (A : ℕ → Bool) → 3 ≤ k → f ≡ extend f k (onlyIf (ltb k 3 && ltb q 4) A)
+no-run f k q A h = none-marked f k (ltb k 3 && ltb q 4) A (rw (le-ltb k 3 h))
 
-pub no-rule : (f : ℕ → ℕ → Bool) (k r : ℕ) (A : ℕ → Bool) → 256 ≤ r → f ≡ extend f k (onlyIf (ltb k 3 && ltb r 256) A)
-no-rule f k r A h = none-marked f k (ltb k 3 && ltb r 256) A (rw (le-ltb r 256 h) (and-false (ltb k 3)))
+pub no-word : (f : ℕ → ℕ → Bool) (k q : ℕ) (A : ℕ → Bool) → 4 ≤ q → f ≡ extend f k (onlyIf (ltb k 3 && ltb q 4) A)
+no-word f k q A h = none-marked f k (ltb k 3 && ltb q 4) A (rw (le-ltb q 4 h) (and-false (ltb k 3)))
 
 pub party-marked : (ws : List ℕ) (k v u : ℕ) → k < 3 → length ws ≡ 3 → u < 2 ^ 64 → member v ≡ unionOf (getD ws k 0) u
     → inWords 1 (set ws k v) ≡ extend (inWords 1 ws) k (onlyIf (ltb k 3) (member u))
 party-marked ws k v u l n h e = rw (only-party k (member u) l) (words-union ws k v u (omega arith) h e)
 
-pub rule-marked : (ws : List ℕ) (k r v u : ℕ) → k < 3 → r < 256 → length ws ≡ 12 → member u ≡ singleOf (r % 64)
-    → member v ≡ unionOf (getD ws (4 * k + r / 64) 0) u
-    → inWords 4 (set ws (4 * k + r / 64) v) ≡ extend (inWords 4 ws) k (onlyIf (ltb k 3 && ltb r 256) (eqb r))
-rule-marked ws k r v u l m n e d = rw (only-rule k r (eqb r) l m) (words-add 4 ws k r v u (omega arith) (omega arith) e d)
+pub word-marked : (ws : List ℕ) (k q v u : ℕ) → k < 3 → q < 4 → length ws ≡ 12 → member v ≡ unionOf (getD ws (4 * k + q) 0) u
+    → inWords 4 (set ws (4 * k + q) v) ≡ extend (inWords 4 ws) k (onlyIf (ltb k 3 && ltb q 4) (fromWord q (member u)))
+unfolding fromWord
+word-marked ws k q v u l m n e = rw (only-word k q (fromWord q (member u)) l m) (words-join 4 ws k q v u m (omega arith) e)
 
 -- One sort of facts is extended, the others are as they were.
 module _ (F G : theory.Facts) (k : ℕ) (A : ℕ → Bool) where
@@ -108,86 +117,62 @@ module _ (F G : theory.Facts) (k : ℕ) (A : ℕ → Bool) where
   unfolding withUnused
   unused-with a p o u = rw (← a, ← p, ← o, ← u)
 
-pub ruleset marks = (absent-with, present-with, at-most-one-with, unused-with, no-party, no-run, no-rule, party-marked, rule-marked)
+pub ruleset marks = (absent-with, present-with, at-most-one-with, unused-with, no-party, no-run, no-word, party-marked, word-marked)
 
--- ---- For callers: marks at a party
-
--- A set marked at a party, and a set of one state.
-module _ (F G : theory.Facts) (k : ℕ) (A : ℕ → Bool) where
-  pub marked-absent : k < 3 → G ≡ withAbsent F k (onlyIf (ltb k 3) A) → G ≡ withAbsent F k A
-  marked-absent h e = e ∙ ap (withAbsent F k) (only-party k A h)
-
-  pub marked-present : k < 3 → G ≡ withPresent F k (onlyIf (ltb k 3) A) → G ≡ withPresent F k A
-  marked-present h e = e ∙ ap (withPresent F k) (only-party k A h)
-
-  pub marked-at-most-one : k < 3 → G ≡ withAtMostOne F k (onlyIf (ltb k 3) A) → G ≡ withAtMostOne F k A
-  marked-at-most-one h e = e ∙ ap (withAtMostOne F k) (only-party k A h)
-
-  pub marked-unused : (r : ℕ) → k < 3 → r < 256 → G ≡ withUnused F k (onlyIf (ltb k 3 && ltb r 256) A) → G ≡ withUnused F k A
-  marked-unused r h l e = e ∙ ap (withUnused F k) (only-rule k r A h l)
+-- ---- For callers: a set of one state
 
 pub only-state : (k s u : ℕ) → k < 3 → s < 64 → member u ≡ singleOf s → onlyIf (ltb k 3) (member u) ≡ eqb s
 only-state k s u h l e = only-party k (member u) h ∙ e ∙ single-below s l
 
-module _ (F G : theory.Facts) (k s u : ℕ) where
-  pub state-absent : k < 3 → s < 64 → member u ≡ singleOf s → G ≡ withAbsent F k (onlyIf (ltb k 3) (member u)) → G ≡ withAbsent F k (eqb s)
-  state-absent h l e d = d ∙ ap (withAbsent F k) (only-state k s u h l e)
+-- ---- For callers: rules marked word by word
 
-  pub state-present : k < 3 → s < 64 → member u ≡ singleOf s → G ≡ withPresent F k (onlyIf (ltb k 3) (member u)) → G ≡ withPresent F k (eqb s)
-  state-present h l e d = d ∙ ap (withPresent F k) (only-state k s u h l e)
-
-  pub state-at-most-one : k < 3 → s < 64 → member u ≡ singleOf s → G ≡ withAtMostOne F k (onlyIf (ltb k 3) (member u)) → G ≡ withAtMostOne F k (eqb s)
-  state-at-most-one h l e d = d ∙ ap (withAtMostOne F k) (only-state k s u h l e)
-
-below-next : (i r : ℕ) → ltb r (i + 1) ≡ eqb i r || ltb r i
-below-next i r =
-    by-test (eqb i r)
-    (λ e. let q = eqb-true i r e in rw (e, lt-ltb r (i + 1) (omega arith)))
+word-next : (q : ℕ) (A : ℕ → Bool) (r : ℕ) → fromWord q (inWord q A) r || (ltb r (64 * q) && A r) ≡ ltb r (64 * (q + 1)) && A r
+unfolding fromWord inWord
+word-next q A r =
+    by-test (eqb (r / 64) q)
     (λ e.
-    by-test (ltb r i)
-    (λ l. rw (e, l, lt-ltb r (i + 1) (omega (arith, ltb-true r i l))))
-    (λ l. let n : i < r = lt-of-le-ne (ltb-false r i l) (eqb-false i r e) in rw (e, l, le-ltb r (i + 1) (omega arith))))
+    let h = eqb-true (r / 64) q e in
+    let a : 64 * q + r % 64 ≡ r = omega arith in
+    rw (e, a, lt-ltb (r % 64) 64 (omega arith), le-ltb r (64 * q) (omega arith), lt-ltb r (64 * (q + 1)) (omega arith)) (or-false (A r)))
+    (λ e.
+    by-test (ltb r (64 * q))
+    (λ l. rw (e, l, lt-ltb r (64 * (q + 1)) (omega (arith, ltb-true r (64 * q) l))))
+    (λ l.
+    let m = ltb-false r (64 * q) l in
+    let n : q < r / 64 = lt-of-le-ne (omega arith) (λ d. eqb-false (r / 64) q e (sym d)) in
+    rw (e, l, le-ltb r (64 * (q + 1)) (omega arith))))
 
-next-in : (x e l a f : Bool) → (e ≡ true → a ≡ true) → (x && e) || ((x && (l && a)) || f) ≡ (x && ((e || l) && a)) || f
-next-in true true l a f h = rw (h refl)
-next-in true false l a f h = refl
-next-in false e l a f h = refl
+both-marks : (x t a b f : Bool) → (x && (t && a)) || ((x && (t && b)) || f) ≡ (x && (t && (a || b))) || f
+both-marks true true true b f = refl
+both-marks true true false b f = refl
+both-marks true false a b f = refl
+both-marks false t a b f = refl
 
-next-out : (e l a : Bool) → (e ≡ true → a ≡ false) → l && a ≡ (e || l) && a
-next-out true l a h = rw (h refl) (and-false l)
-next-out false l a h = refl
-
--- The rules of A are marked one after another: at the start, after a turn that marks rule i, and after one that does not. The test of a turn is t.
+-- At the start, and after a turn that marks the rules of A in word q.
 module _ (F : theory.Facts) (k : ℕ) (A : ℕ → Bool) where
-  -- The rules of A below i are marked.
+  -- The rules of A below 64 q are marked, where k is a party.
   abbrev pub MarkedBelow : ℕ → theory.Facts → Type 0
-  MarkedBelow i G = G ≡ withUnused F k (λ r. ltb r i && A r)
+  MarkedBelow q G = G ≡ withUnused F k (onlyIf (ltb k 3) (λ r. ltb r (64 * q) && A r))
 
   pub marked-none : MarkedBelow 0 F
-  unfolding extend
+  unfolding extend onlyIf
   marked-none =
-      unused-with F F k (λ r. ltb r 0 && A r) refl refl refl
-      (fun-ext (λ j. fun-ext (λ r. rw (le-ltb r 0 (omega arith), and-false (eqb j k)))))
+      unused-with F F k _ refl refl refl
+      (fun-ext (λ j. fun-ext (λ r. rw (le-ltb r 0 (omega arith), and-false (ltb k 3), and-false (eqb j k)))))
 
-  pub marked-more : (G H : theory.Facts) (i : ℕ) (t : Bool) → k < 3 → i < 256 → MarkedBelow i G → t ≡ A i → t ≡ true
-      → H ≡ withUnused G k (onlyIf (ltb k 3 && ltb i 256) (eqb i)) → MarkedBelow (i + 1) H
-  unfolding withUnused extend
-  marked-more G H i t h l g e u m =
-      marked-unused G H k (eqb i) i h l m
-      ∙ rw g
+  pub marked-more : (G H : theory.Facts) (q w : ℕ) → q < 4 → MarkedBelow q G → member w ≡ inWord q A
+      → H ≡ withUnused G k (onlyIf (ltb k 3 && ltb q 4) (fromWord q (member w))) → MarkedBelow (q + 1) H
+  unfolding withUnused extend onlyIf
+  marked-more G H q w l g e m =
+      m
+      ∙ rw (g, e, lt-ltb q 4 l, and-true (ltb k 3))
       (ap (λ (f : ℕ → ℕ → Bool). record { absent = F .absent; present = F .present; atMostOne = F .atMostOne; unused = f })
       (fun-ext
       (λ j.
       fun-ext
       (λ r.
-      rw (below-next i r)
-      (next-in (eqb j k) (eqb i r) (ltb r i) (A r) (F .unused j r) (λ q. ap A (sym (eqb-true i r q)) ∙ sym e ∙ u))))))
-
-  pub marked-same : (G : theory.Facts) (i : ℕ) (t : Bool) → MarkedBelow i G → t ≡ A i → t ≡ false → MarkedBelow (i + 1) G
-  marked-same G i t g e u =
-      g
-      ∙ ap (withUnused F k)
-      (fun-ext (λ r. rw (below-next i r) (next-out (eqb i r) (ltb r i) (A r) (λ q. ap A (sym (eqb-true i r q)) ∙ sym e ∙ u))))
+      both-marks (eqb j k) (ltb k 3) (fromWord q (inWord q A) r) (ltb r (64 * q) && A r) (F .unused j r)
+      ∙ ap (λ b. (eqb j k && (ltb k 3 && b)) || F .unused j r) (word-next q A r)))))
 
 -- ---- The fresh facts
 

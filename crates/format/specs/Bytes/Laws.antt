@@ -17,6 +17,24 @@ past16 b k h =
     let h′ : length b ≤ k + 1 = omega arith in
     omega (arith, List·getD-eq-default b 0 h, List·getD-eq-default b 0 h′)
 
+-- At the last byte, and past the end, the second byte is 0.
+last16 : (b : List ℕ) (k r : ℕ) → length b ≤ k + 1 → Value 256 (getD b k 0) r → r ≡ le16 b k
+unfolding le16
+last16 b k r h v = omega (arith, v .is, List·getD-eq-default b 0 h)
+
+pub short16 : (b : List ℕ) (k r : ℕ) → length b < 2 → Value 256 (getD b k 0) r → r ≡ le16 b k
+short16 b k r h = last16 b k r (omega arith)
+
+pub end16 : (b : List ℕ) (k r : ℕ) → length b - 2 < k → Value 256 (getD b k 0) r → r ≡ le16 b k
+end16 b k r h = last16 b k r (omega arith)
+
+pub four32 : (b : List ℕ) (k v w x y : ℕ) → Value 256 (getD b k 0) v → Value 256 (getD b (k + 1) 0) w → Value 256 (getD b (k + 2) 0) x → Value 256 (getD b (k + 3) 0) y
+    → v + 256 * w + 65536 * (x + 256 * y) ≡ le32 b k
+unfolding le32 le16
+four32 b k v w x y hv hw hx hy =
+    let e : k + 2 + 1 ≡ k + 3 = omega arith in
+    omega (arith, hv .is, hw .is, hx .is, hy .is, ap (λ j. getD b j 0) e)
+
 pub past32 : (b : List ℕ) (k : ℕ) → length b ≤ k → 0 ≡ le32 b k
 unfolding le32
 past32 b k h = omega (arith, past16 b k h, past16 b (k + 2) (omega arith))

@@ -9,7 +9,7 @@ use Rattle.theory.specs.Below.Scan.{Clear, scan, clear-more, first-hit}
 use Rattle.theory.specs.Ladder.{handoverAt}
 use Rattle.ladder.specs.Ladder.{ladderOf, fitting, uncovered}
 use Rattle.ladder.specs.Ladder.Laws.{fits-turn, not-lower, covered-by, covered-by-none, covered-passes, uncovered-fails}
-use Rattle.ladder.specs.declared.Rule.{Rule}
+use Rattle.format.specs.declared.Rule.{Rule}
 use borrow.Author.Needs.{needs}
 use Rattle.ladder.proofs.handover_fault.Statement.{statement}
 use Rattle.ladder.proofs.handover_fault.Tie as tie

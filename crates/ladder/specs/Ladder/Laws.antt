@@ -18,11 +18,11 @@ use Rattle.theory.specs.Below.Scan.{Clear}
 use Rattle.theory.specs.Protocol.{Protocol}
 use Rattle.theory.specs.Ladder.{lowersAt, isLower, preSequence, fits, handoverAt, leastWeight, spread, spreads}
 use Rattle.format.specs.Bytes.{Value}
-use Rattle.format.specs.Format.{ruleP, ruleQ, ruleLayer, protocolOf}
+use Rattle.format.specs.Format.{ruleP, ruleQ, ruleLayer, protocolOf, ruleOf}
 use Rattle.format.specs.declared.Sizes.{Sizes}
-use Rattle.ladder.specs.declared.Rule.{Rule}
+use Rattle.format.specs.declared.Rule.{Rule}
 use Rattle.ladder.specs.declared.PreSequence.{PreSequence}
-use Rattle.ladder.specs.Ladder.{ladderOf, fitting, uncovered, ruleOf, inPair, beyondOf, preSequenceOf, coversOf, absentOf, fitsIn}
+use Rattle.ladder.specs.Ladder.{ladderOf, fitting, uncovered, inPair, beyondOf, preSequenceOf, coversOf, absentOf, fitsIn}
 
 -- ---- The ladder of the sections is that of the whole protocol
 

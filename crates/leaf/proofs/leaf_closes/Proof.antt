@@ -1,43 +1,93 @@
--- Each return is a case of the leaf rule.
-use borrow.Author.Tests.{not-true, not-false}
-use Rattle.leaf.specs.Leaf.Laws.{leafRule}
+-- The states below s fit, and plus and minus are the sums of what they add.
 use borrow.Author.Needs.{needs}
 use Rattle.leaf.proofs.leaf_closes.Statement.{statement}
 use Rattle.leaf.proofs.leaf_closes.Tie as tie
+use Prim.Native.Nat.{_-_, _≤_}
+use borrow.Author.Tests.{not-true, not-false}
+use Rattle.leaf.specs.Leaf.{shareOf}
+use Rattle.leaf.specs.Leaf.Laws.{Added, added-none, added-more, leafRule}
 
-first-increase-requires : tie.Need-first-increase-requires
-first-increase-requires c κs = search needs
+abbrev Inv-loop : tie.InvT-loop
+Inv-loop rules leaves z l start first second plus₀ minus₀ s₀ plus minus s = (s ≤ z .states) × Added (shareOf z leaves l start first second) s plus minus
 
-returns : tie.Need-returns
-returns c = search (leafRule, not-true, not-false, needs)
+abbrev μ-loop : tie.MeasureT-loop
+μ-loop rules leaves z l start first second plus₀ minus₀ s₀ plus minus s = z .states - s
 
-first-increase-requires-2 : tie.Need-first-increase-requires-2
-first-increase-requires-2 c κs = search needs
+non-increasing-requires : tie.Need-non-increasing-requires Inv-loop μ-loop
+non-increasing-requires c κs = search needs
 
-returns-2 : tie.Need-returns-2
+returns : tie.Need-returns Inv-loop μ-loop
+returns c = search (leafRule, not-true, needs)
+
+non-increasing-requires-2 : tie.Need-non-increasing-requires-2 Inv-loop μ-loop
+non-increasing-requires-2 c κs = search needs
+
+returns-2 : tie.Need-returns-2 Inv-loop μ-loop
 returns-2 c = search (leafRule, not-true, not-false, needs)
 
-weights-fit-requires : tie.Need-weights-fit-requires
-weights-fit-requires c κs = search needs
+known-at-requires : tie.Need-known-at-requires Inv-loop μ-loop
+known-at-requires c κs = search needs
 
-returns-3 : tie.Need-returns-3
+known-at-requires-2 : tie.Need-known-at-requires-2 Inv-loop μ-loop
+known-at-requires-2 c κs = search needs
+
+known-at-requires-3 : tie.Need-known-at-requires-3 Inv-loop μ-loop
+known-at-requires-3 c κs = search needs
+
+loop-holds : tie.Need-loop-holds Inv-loop μ-loop
+loop-holds c = search (added-none, needs)
+
+share-at-requires : tie.Need-share-at-requires Inv-loop μ-loop
+share-at-requires c κs = search needs
+
+returns-3 : tie.Need-returns-3 Inv-loop μ-loop
 returns-3 c = search (leafRule, not-true, not-false, needs)
 
-sums-close-requires : tie.Need-sums-close-requires
-sums-close-requires c κs = search needs
+cast-plus : tie.Need-cast-plus Inv-loop μ-loop
+cast-plus c = search needs
 
-returns-4 : tie.Need-returns-4
-returns-4 c = search (leafRule, not-true, not-false, needs)
+add-plus : tie.Need-add-plus Inv-loop μ-loop
+add-plus c = search needs
+
+cast-minus : tie.Need-cast-minus Inv-loop μ-loop
+cast-minus c = search needs
+
+add-minus : tie.Need-add-minus Inv-loop μ-loop
+add-minus c = search needs
+
+add-s : tie.Need-add-s Inv-loop μ-loop
+add-s c = search needs
+
+loop-less : tie.Need-loop-less Inv-loop μ-loop
+loop-less c = search needs
+
+loop-again : tie.Need-loop-again Inv-loop μ-loop
+loop-again c = search (added-more, not-true, not-false, needs)
+
+returns-4 : tie.Need-returns-4 Inv-loop μ-loop
+returns-4 c = search (leafRule, not-false, needs)
 
 pub leaf-closes-spec : {M : Type 1} → statement M
 leaf-closes-spec =
     tie.close
     (tie.spec
-    first-increase-requires
+    Inv-loop
+    μ-loop
+    non-increasing-requires
     returns
-    first-increase-requires-2
+    non-increasing-requires-2
     returns-2
-    weights-fit-requires
+    known-at-requires
+    known-at-requires-2
+    known-at-requires-3
+    loop-holds
+    share-at-requires
     returns-3
-    sums-close-requires
+    cast-plus
+    add-plus
+    cast-minus
+    add-minus
+    add-s
+    loop-less
+    loop-again
     returns-4)

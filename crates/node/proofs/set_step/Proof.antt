@@ -21,14 +21,11 @@ absent-requires c κs = search needs
 subset-requires-2 : tie.Need-subset-requires-2
 subset-requires-2 c κs = search needs
 
-is-trap-requires : tie.Need-is-trap-requires
-is-trap-requires c κs = search needs
-
 mark-absent-requires : tie.Need-mark-absent-requires
 mark-absent-requires c κs = search needs
 
-mark-touching-requires : tie.Need-mark-touching-requires
-mark-touching-requires c κs = let s = c .before .before .before .before .before .before .before .before .before .before .before .before .pre in search needs
+test-set-requires : tie.Need-test-set-requires
+test-set-requires c κs = search needs
 
 settle-requires : tie.Need-settle-requires
 settle-requires c κs = search needs
@@ -50,8 +47,7 @@ set-step-spec =
     subset-requires
     absent-requires
     subset-requires-2
-    is-trap-requires
     mark-absent-requires
-    mark-touching-requires
+    test-set-requires
     settle-requires
     returns)

@@ -1,18 +1,18 @@
 -- Laws for the functions of a node. Assumes nothing.
 use mathlib.Core.Path.{_≡_, refl, sym, ap, _∙_, fun-ext}
-use mathlib.Core.Bool.{Bool, true, false, not, Bool·beq, _&&_, _||_, and-false}
+use mathlib.Core.Bool.{Bool, true, false, not, Bool·beq, _&&_, _||_, and-true, and-false}
 use mathlib.Core.List.{List, [], _∷_}
 use mathlib.Core.Logic.{by-cases}
-use Prim.Native.Nat.{ℕ, zero, suc, _+_, _^_, _≤_, _<_}
+use Prim.Native.Nat.{ℕ, zero, suc, _+_, _*_, _^_, _≤_, _<_}
 use native.Mathlib.Decide.{decLt}
 use native.Mathlib.Omega.{arith}
 use lib.Dec.{leb, ltb, eqb}
 use lib.ListN.{getD}
-use native.Mathlib.Nat.{lt-of-lt-of-le}
-use borrow.Author.Count.{below-none, below-more}
-use borrow.Author.Tests.{lt-ltb, le-ltb, ltb-true, ltb-false, leb-true, not-true, not-false}
+use lib.Arith.{lt-of-le-ne}
+use native.Mathlib.Nat.{add-suc, add-zero, lt-of-lt-of-le}
+use borrow.Author.Tests.{lt-ltb, le-ltb, ltb-true, ltb-false, leb-true, eqb-true, eqb-false, not-true, not-false}
 use Rattle.theory.specs.Test.{member, imp}
-use Rattle.theory.specs.Test.Laws.{by-test, not-both, is-false, and-elim, imp-intro, imp-elim, or-left, or-right, or-none}
+use Rattle.theory.specs.Test.Laws.{by-test, not-both, is-false, and-elim, imp-intro, imp-elim}
 use Rattle.theory.specs.Below.{allBelow}
 use Rattle.theory.specs.Below.Laws.{all-intro, all-elim}
 use Rattle.theory.specs.Protocol.{Protocol}
@@ -20,14 +20,16 @@ use Rattle.theory.specs.Facts.{Facts, withAbsent, withPresent, withAtMostOne, w
 use Rattle.theory.specs.Leaf.{leafCloses, nonIncreasing, startFits, endFits, spare, surplus, shortfall}
 use Rattle.theory.specs.Tree.{Assumption, leaf, outputAbsent, contradiction, disabled, caseSplit, trap, siphon, bad, checked, takes, puts, touches, follows, isTrap, isSiphon, within, isSet, children, disagreement, isRun, ground, byKind, node, refusalNumber}
 use Rattle.theory.specs.Tree as tree
-use Rattle.bits.specs.Word.{inWords, singleOf, fullOf, withoutOf, subsetOf}
-use Rattle.bits.specs.Word.Laws.{member-above, member-small, all-wider, subset-states}
-use Rattle.format.specs.Format.{ruleP, ruleQ, treeOf, weightsOf, protocolOf}
+use Rattle.bits.specs.Word.{inWords, singleOf, fullOf, unionOf, withIf, withoutOf, subsetOf}
+use Rattle.bits.specs.Word.Laws.{member-none, member-above, member-small, all-wider, subset-states}
+use Rattle.format.specs.Format.{ruleP, ruleQ, ruleOf, treeOf, weightsOf, protocolOf}
+use Rattle.format.specs.declared.Rule.{Rule}
 use Rattle.format.specs.declared.Sizes.{Sizes}
 use Rattle.shape.specs.Sound.{Limits, SoundParts}
-use Rattle.facts.specs.Facts.{onlyIf}
-use Rattle.facts.specs.Facts.Laws.{only-party, only-state, no-party, unused-with, MarkedBelow, marked-more, marked-same}
-use Rattle.node.specs.Node.{among, assumedOf, nodeOf, nodeTable, takesFrom, putsInto, keeps, isTrapOf, SoundRules, Turn, refuse, check, settled, turn, turnAt, leafFields, runFields, stateFields, ruleFields, setFields, disabledChildren, setChild}
+use Rattle.facts.specs.Facts.{onlyIf, inWord, fromWord}
+use Rattle.facts.specs.Facts.Laws.{only-party, only-state, MarkedBelow, marked-more}
+use Rattle.node.specs.Node.{among, assumedOf, nodeOf, nodeTable, takesFrom, putsInto, keeps, isTrapOf, SoundRules, rulesIn, FlowAt, breakingOf, Turn, refuse, check, settled, turn, turnAt, leafFields, runFields, stateFields, ruleFields, setFields, disabledChildren, setChild}
+use Rattle.node.specs.declared.Flow.{Flow}
 use Rattle.node.specs.declared.Node.{Node}
 
 -- What the sound shape of a docket gives.
@@ -37,6 +39,8 @@ sound-rules z states rules layers l g = record {
   rules-most = l .rules-most;
   p-lt = λ r h. lt-of-lt-of-le (g .formed .p-lt r h) (l .states-most);
   q-lt = λ r h. lt-of-lt-of-le (g .formed .q-lt r h) (l .states-most);
+  p′-lt = λ r h. lt-of-lt-of-le (g .formed .p′-lt r h) (l .states-most);
+  q′-lt = λ r h. lt-of-lt-of-le (g .formed .q′-lt r h) (l .states-most);
 }
 
 -- ---- Fields, then ground
@@ -63,6 +67,12 @@ settled-when false g h x Fs Gs f e = e
 
 -- ---- Sets in words
 
+all-same : (n : ℕ) (g h : ℕ → Bool) → ((s : ℕ) → s < n → g s ≡ h s) → allBelow n g ≡ allBelow n h
+all-same n g h e =
+    by-test (allBelow n h)
+    (λ t. all-intro n g (λ s m. e s m ∙ all-elim n h t s m) ∙ sym t)
+    (λ t. is-false _ (λ u. not-both (all-intro n h (λ s m. sym (e s m) ∙ all-elim n g u s m)) t) ∙ sym t)
+
 -- The members of u are the states of A.
 pub within-word : (S u a : ℕ) (A f : ℕ → Bool) (t : Bool) → S ≤ 64 → member u ≡ among S A → member a ≡ f → t ≡ subsetOf u a
     → t ≡ allBelow S (λ s. imp (A s) (f s))
@@ -72,12 +82,6 @@ within-word S u a A f t l e d h =
     ∙ rw (e, d)
     (all-wider 64 S (λ s. imp ((ltb s 64 && ltb s S) && A s) (f s)) l (λ s m. rw (le-ltb s S m, and-false (ltb s 64)))
     ∙ all-same S _ _ (λ s m. rw (lt-ltb s S m, lt-ltb s 64 (omega arith))))
-  where
-    all-same : (n : ℕ) (g h : ℕ → Bool) → ((s : ℕ) → s < n → g s ≡ h s) → allBelow n g ≡ allBelow n h
-    all-same n g h e =
-        by-test (allBelow n h)
-        (λ t. all-intro n g (λ s m. e s m ∙ all-elim n h t s m) ∙ sym t)
-        (λ t. is-false _ (λ u. not-both (all-intro n h (λ s m. sym (e s m) ∙ all-elim n g u s m)) t) ∙ sym t)
 
 -- A word is a set of the S states just where its members are among them.
 module _ (S w : ℕ) (h : w < 2 ^ 64) where
@@ -104,68 +108,186 @@ module _ (S w : ℕ) (h : w < 2 ^ 64) where
 
 -- ---- Rules and a set
 
-pub keeps-forward : (reversed : Bool) (rules : List ℕ) (A : ℕ → Bool) (r : ℕ) (t p : Bool) → t ≡ takesFrom rules A r → p ≡ putsInto rules A r → reversed ≡ false
-    → not t || p ≡ keeps reversed rules A r
-unfolding keeps
-keeps-forward reversed rules A r t p e d h = rw (h, e, d)
+module _ (z : Sizes) (rules : List ℕ) (s : SoundRules z rules) (r : ℕ) (t : Rule) (e : t ≡ ruleOf rules r) (h : r < z .rules) where
+  pub p-below : t .p < 64
+  p-below = rw e (s .p-lt r h)
 
-pub keeps-reversed : (reversed : Bool) (rules : List ℕ) (A : ℕ → Bool) (r : ℕ) (t p : Bool) → t ≡ takesFrom rules A r → p ≡ putsInto rules A r → reversed ≡ true
-    → not p || t ≡ keeps reversed rules A r
-unfolding keeps
-keeps-reversed reversed rules A r t p e d h = rw (h, e, d)
+  pub q-below : t .q < 64
+  q-below = rw e (s .q-lt r h)
 
--- Every number below i passes.
-abbrev pub Kept : (ℕ → Bool) → ℕ → Type 0
-Kept f i = (k : ℕ) → k < i → f k ≡ true
+  pub p′-below : t .p2 < 64
+  p′-below = rw e (s .p′-lt r h)
+
+  pub q′-below : t .q2 < 64
+  q′-below = rw e (s .q′-lt r h)
+
+pub ruleset ruleStates = (p-below, q-below, p′-below, q′-below)
+
+below-next : (i j : ℕ) → ltb j (i + 1) ≡ ltb j i || eqb i j
+below-next i j =
+    by-test (eqb i j)
+    (λ e. let q = eqb-true i j e in rw (e, lt-ltb j (i + 1) (omega arith), le-ltb j i (omega arith)))
+    (λ e.
+    rw e
+    (by-test (ltb j i)
+    (λ l. rw (l, lt-ltb j (i + 1) (omega (arith, ltb-true j i l))))
+    (λ l. let n : i < j = lt-of-le-ne (ltb-false j i l) (eqb-false i j e) in rw (l, le-ltb j (i + 1) (omega arith)))))
+
+next-in : (h l e a t : Bool) → (e ≡ true → t ≡ a) → ((h && l) && a) || (t && (h && e)) ≡ (h && (l || e)) && a
+next-in true true true true t f = refl
+next-in true true true false t f = rw (f refl)
+next-in true true false true t f = refl
+next-in true true false false true f = refl
+next-in true true false false false f = refl
+next-in true false true a t f = rw (f refl) (and-true a)
+next-in true false false a true f = refl
+next-in true false false a false f = refl
+next-in false l e a true f = refl
+next-in false l e a false f = refl
+
+-- Rules that pass f are gathered in a word: at the start, after a turn with the test t, and at the end of the word or of the rules.
+module _ (z : Sizes) (f : ℕ → Bool) (q : ℕ) where
+  -- The members of w are the rules that pass f, of the i rules from 64 q on, counted from there.
+  abbrev pub Gathered : ℕ → ℕ → Type 0
+  Gathered i w = member w ≡ among i (λ j. rulesIn z f (64 * q + j))
+
+  pub gathered-none : Gathered 0 0
+  unfolding among
+  gathered-none = fun-ext (λ j. member-none j ∙ sym (rw (le-ltb j 0 (omega arith), and-false (ltb j 64))))
+
+  gathered-more : (i w v : ℕ) (t : Bool) → Gathered i w → 64 * q + i < z .rules → t ≡ f (64 * q + i) → member v ≡ withIf t i w → Gathered (i + 1) v
+  unfolding among rulesIn withIf
+  gathered-more i w v t g l e d =
+      d
+      ∙ fun-ext
+      (λ j.
+      rw (g, below-next i j)
+      (next-in (ltb j 64) (ltb j i) (eqb i j) (rulesIn z f (64 * q + j)) t
+      (λ h. let c = eqb-true i j h in rw (← c, lt-ltb (64 * q + i) (z .rules) l) e)))
+
+  pub gathered-end : (i w : ℕ) → Gathered i w → 64 ≤ i → member w ≡ inWord q (rulesIn z f)
+  unfolding among inWord
+  gathered-end i w g l =
+      g
+      ∙ fun-ext
+      (λ j. by-test (ltb j 64) (λ e. rw (e, lt-ltb j i (omega (arith, ltb-true j 64 e)))) (λ e. rw e))
+
+  pub gathered-past : (i w : ℕ) → Gathered i w → z .rules ≤ 64 * q + i → member w ≡ inWord q (rulesIn z f)
+  unfolding among inWord rulesIn
+  gathered-past i w g l =
+      g
+      ∙ fun-ext
+      (λ j.
+      by-test (ltb j i)
+      (λ e. rw (e, and-true (ltb j 64)))
+      (λ e. rw (e, and-false (ltb j 64), le-ltb (64 * q + j) (z .rules) (omega (arith, ltb-false j i e))) (sym (and-false (ltb j 64)))))
+
+-- A turn that reads rule t, where x and y are the tests of two of its states.
+module _ (z : Sizes) (rules : List ℕ) (A : ℕ → Bool) (q i w v : ℕ) (t : Rule) (x y : Bool) (e : t ≡ ruleOf rules (64 * q + i))
+    (d : member v ≡ withIf (x || y) i w) (l : 64 * q + i < z .rules) where
+  pub taking-more : Gathered z (takesFrom rules A) q i w → x ≡ A (t .p) → y ≡ A (t .q) → Gathered z (takesFrom rules A) q (i + 1) v
+  taking-more g h k = gathered-more z (takesFrom rules A) q i w v (x || y) g l (rw (h, k, e)) d
+
+  pub putting-more : Gathered z (putsInto rules A) q i w → x ≡ A (t .p2) → y ≡ A (t .q2) → Gathered z (putsInto rules A) q (i + 1) v
+  putting-more g h k = gathered-more z (putsInto rules A) q i w v (x || y) g l (rw (h, k, e)) d
+
+pub ruleset gathered = (gathered-none, gathered-end, gathered-past)
+
+pub breaking-forward : (reversed : Bool) (f : Flow) (w : ℕ) → reversed ≡ false → member w ≡ withoutOf (f .taking) (f .putting) → member w ≡ breakingOf reversed f
+unfolding breakingOf
+breaking-forward reversed f w h e = rw h e
+
+pub breaking-reversed : (reversed : Bool) (f : Flow) (w : ℕ) → reversed ≡ true → member w ≡ withoutOf (f .putting) (f .taking) → member w ≡ breakingOf reversed f
+unfolding breakingOf
+breaking-reversed reversed f w h e = rw h e
+
+all-split : (m n : ℕ) (f : ℕ → Bool) → allBelow (m + n) f ≡ allBelow m f && allBelow n (λ k. f (m + k))
+unfolding allBelow
+all-split m zero f = rw (add-zero m) (sym (and-true (allBelow m f)))
+all-split m (suc n) f = rw (add-suc m n, all-split m n f) (swap (f (m + n)) (allBelow m f) _)
+  where
+    swap : (a b c : Bool) → a && (b && c) ≡ b && (a && c)
+    swap true b c = refl
+    swap false true c = refl
+    swap false false c = refl
+
+-- One rule: whether its number is below the number of rules (l), it takes from the set (t), puts into it (p), is unused (u).
+unbroken : (l t p u : Bool) → imp ((l && t) && not (l && p)) u ≡ imp l (u || imp t p)
+unbroken true true true true = refl
+unbroken true true true false = refl
+unbroken true true false true = refl
+unbroken true true false false = refl
+unbroken true false p true = refl
+unbroken true false p false = refl
+unbroken false t p u = refl
 
 module _ (reversed : Bool) (z : Sizes) (rules : List ℕ) (unused A : ℕ → Bool) where
-  -- Rule r is unused or keeps the set.
-  abbrev pub keepsAt : ℕ → Bool
-  keepsAt r = unused r || keeps reversed rules A r
+  -- Rule r, if there is such a rule, is unused or keeps the set.
+  unfoldable pub keepsAt : ℕ → Bool
+  keepsAt r = imp (ltb r (z .rules)) (unused r || keeps reversed rules A r)
 
-  pub kept-none : Kept keepsAt 0
-  kept-none = below-none (λ k. keepsAt k ≡ true)
+  -- Every rule below 64 q is unused or keeps the set.
+  unfoldable pub keptBelow : ℕ → Bool
+  keptBelow q = allBelow (64 * q) keepsAt
 
-  -- The rule's test is t; where it fails, whether the rule is unused is u.
-  module _ (i : ℕ) (t : Bool) (e : t ≡ keeps reversed rules A i) where
-    pub kept-more : Kept keepsAt i → not t ≡ false → Kept keepsAt (i + 1)
-    kept-more k h = below-more (λ r. keepsAt r ≡ true) i k (or-right (unused i) _ (sym e ∙ not-false t h))
+  pub kept-none : true ≡ keptBelow 0
+  unfolding keptBelow allBelow
+  kept-none = refl
 
-    pub kept-unused : (u : Bool) → Kept keepsAt i → u ≡ unused i → not u ≡ false → Kept keepsAt (i + 1)
-    kept-unused u k d h = below-more (λ r. keepsAt r ≡ true) i k (or-left (unused i) _ (sym d ∙ not-false u h))
+  kept-word : (q : ℕ) (f : Flow) (b u : ℕ) → FlowAt z rules A q f → member b ≡ breakingOf reversed f → member u ≡ inWord q unused
+      → subsetOf b u ≡ allBelow 64 (λ i. keepsAt (64 * q + i))
+  unfolding breakingOf keepsAt keeps inWord rulesIn
+  kept-word q f b u g e d =
+      rw (e, d)
+      (all-same 64 _ _
+      (λ i l.
+      by-test reversed
+      (λ h. rw (h, g .taking, g .putting, lt-ltb i 64 l) (unbroken (ltb (64 * q + i) (z .rules)) _ _ _))
+      (λ h. rw (h, g .taking, g .putting, lt-ltb i 64 l) (unbroken (ltb (64 * q + i) (z .rules)) _ _ _))))
 
-    pub kept-fails : (u : Bool) → i < z .rules → not t ≡ true → u ≡ unused i → not u ≡ true → false ≡ isTrapOf reversed z rules unused A
-    unfolding isTrapOf
-    kept-fails u l h d g =
-        sym (is-false _ (λ q. not-both (all-elim (z .rules) keepsAt q i l) (or-none (unused i) _ (sym d ∙ not-true u g) (sym e ∙ not-true t h))))
+  pub kept-more : (q : ℕ) (f : Flow) (b u : ℕ) (t x : Bool) → t ≡ keptBelow q → FlowAt z rules A q f → member b ≡ breakingOf reversed f
+      → member u ≡ inWord q unused → x ≡ subsetOf b u → t && x ≡ keptBelow (q + 1)
+  unfolding keptBelow
+  kept-more q f b u t x h g e d k =
+      let s : 64 * (q + 1) ≡ 64 * q + 64 = omega arith in
+      rw (h, k, s, kept-word q f b u g e d) (sym (all-split (64 * q) 64 keepsAt))
 
-  pub kept-end : (i : ℕ) → z .rules ≤ i → Kept keepsAt i → true ≡ isTrapOf reversed z rules unused A
-  unfolding isTrapOf
-  kept-end i l k = sym (all-intro (z .rules) keepsAt (λ r h. k r (omega arith)))
+  pub kept-end : (q : ℕ) (t : Bool) → z .rules ≤ 64 * q → t ≡ keptBelow q → t ≡ isTrapOf reversed z rules unused A
+  unfolding keptBelow keepsAt isTrapOf
+  kept-end q t l h =
+      h
+      ∙ all-wider (64 * q) (z .rules) keepsAt l (λ r m. rw (le-ltb r (z .rules) m))
+      ∙ all-same (z .rules) _ _ (λ r m. rw (lt-ltb r (z .rules) m))
 
-pub ruleset kept = (kept-none, kept-more, kept-unused, kept-fails, kept-end)
+pub ruleset kept = (kept-none, kept-more, kept-end)
 
--- The rule takes from the set or puts into it.
-abbrev pub meets : List ℕ → (ℕ → Bool) → ℕ → Bool
-meets rules A r = takesFrom rules A r || putsInto rules A r
+both-flows : (h l t p : Bool) → (h && (l && t)) || (h && (l && p)) ≡ h && (l && (t || p))
+both-flows true true t p = refl
+both-flows true false t p = refl
+both-flows false l t p = refl
 
-pub touched-none : (F : Facts) (k : ℕ) (A : ℕ → Bool) → 3 ≤ k → F ≡ withUnused F k (onlyIf (ltb k 3) A)
-touched-none F k A h = unused-with F F k _ refl refl refl (no-party (F .unused) k A h)
+module _ (z : Sizes) (rules : List ℕ) (F G : Facts) (k : ℕ) (A : ℕ → Bool) (q : ℕ) where
+  pub touched-more : (H : Facts) (f : Flow) (w : ℕ) → z .rules ≤ 256 → 64 * q < z .rules → MarkedBelow F k (touches (nodeTable z rules 0) A) q G
+      → FlowAt z rules A q f → member w ≡ unionOf (f .taking) (f .putting)
+      → H ≡ withUnused G k (onlyIf (ltb k 3 && ltb q 4) (fromWord q (member w)))
+      → MarkedBelow F k (touches (nodeTable z rules 0) A) (q + 1) H
+  unfolding touches takes puts inWord rulesIn
+  touched-more H f w b l g e d m =
+      marked-more F k (touches (nodeTable z rules 0) A) G H q w (omega arith) g
+      (d ∙ fun-ext (λ i. rw (e .taking, e .putting) (both-flows (ltb i 64) (ltb (64 * q + i) (z .rules)) _ _)))
+      m
 
-module _ (z : Sizes) (rules : List ℕ) (F G : Facts) (k : ℕ) (A : ℕ → Bool) (i : ℕ) where
-  pub touched-end : k < 3 → i ≤ z .rules → z .rules ≤ i → MarkedBelow F k (meets rules A) i G
+  pub touched-end : z .rules ≤ 64 * q → MarkedBelow F k (touches (nodeTable z rules 0) A) q G
       → G ≡ withUnused F k (onlyIf (ltb k 3) (touches (nodeTable z rules 0) A))
-  unfolding touches takes puts
-  touched-end h l m g = let e : i ≡ z .rules = omega arith in rw (only-party k (touches (nodeTable z rules 0) A) h) (rw e at g)
-
-  -- A turn with the tests t and u of rule i.
-  module _ (t u : Bool) (g : MarkedBelow F k (meets rules A) i G) (e : t ≡ takesFrom rules A i) (d : u ≡ putsInto rules A i) where
-    pub touched-more : (H : Facts) → k < 3 → i < 256 → t || u ≡ true → H ≡ withUnused G k (onlyIf (ltb k 3 && ltb i 256) (eqb i))
-        → MarkedBelow F k (meets rules A) (i + 1) H
-    touched-more H h l o m = marked-more F k (meets rules A) G H i (t || u) h l g (rw (e, d)) o m
-
-    pub touched-same : t || u ≡ false → MarkedBelow F k (meets rules A) (i + 1) G
-    touched-same o = marked-same F k (meets rules A) G i (t || u) g (rw (e, d)) o
+  unfolding touches
+  touched-end l g =
+      g
+      ∙ ap (λ (B : ℕ → Bool). withUnused F k (onlyIf (ltb k 3) B))
+      (fun-ext
+      (λ r.
+      by-test (ltb r (z .rules))
+      (λ e. rw (e, lt-ltb r (64 * q) (omega (arith, ltb-true r (z .rules) e))))
+      (λ e. rw (e, and-false (ltb r (64 * q))))))
 
 -- ---- The kinds
 

@@ -1,16 +1,19 @@
 -- `shape::layer_fault` meets its contract: no layer below `i` is at fault.
-use Prim.Native.Nat.{_≤_, _-_}
 use borrow.Author.Needs.{needs}
-use Rattle.theory.specs.Below.Scan.{Clear, scan}
-use Rattle.shape.specs.Shape.{badLayer}
 use Rattle.shape.proofs.layer_fault.Statement.{statement}
 use Rattle.shape.proofs.layer_fault.Tie as tie
+use Prim.Native.Nat.{_≤_, _-_}
+use Rattle.theory.specs.Below.Scan.{Clear, scan}
+use Rattle.shape.specs.Shape.{badLayer}
 
 abbrev Inv-loop : tie.InvT-loop
-Inv-loop rules layers z i₀ i = (i ≤ z .layers) × Clear (badLayer z rules layers) i
+Inv-loop rules layers z used i₀ i = (i ≤ z .layers) × Clear (badLayer z rules layers) i
 
 abbrev μ-loop : tie.MeasureT-loop
-μ-loop rules layers z i₀ i = z .layers - i
+μ-loop rules layers z used i₀ i = z .layers - i
+
+used-layers-requires : tie.Need-used-layers-requires Inv-loop μ-loop
+used-layers-requires c κs = search needs
 
 loop-holds : tie.Need-loop-holds Inv-loop μ-loop
 loop-holds c = search (scan, needs)
@@ -39,6 +42,7 @@ layer-fault-spec =
     (tie.spec
     Inv-loop
     μ-loop
+    used-layers-requires
     loop-holds
     layer-bad-requires
     returns

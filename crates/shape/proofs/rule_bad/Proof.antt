@@ -1,22 +1,12 @@
--- `shape::rule_bad` meets its contract: by what each reader ensures.
+-- `shape::rule_bad` meets its contract: the fields are those of the record.
+use mathlib.Core.Path.{ap}
 use borrow.Author.Needs.{needs}
+use Rattle.shape.specs.Shape.{badFields}
 use Rattle.shape.proofs.rule_bad.Statement.{statement}
 use Rattle.shape.proofs.rule_bad.Tie as tie
 
-rule-p-requires : tie.Need-rule-p-requires
-rule-p-requires c κs = search needs
-
-rule-q-requires : tie.Need-rule-q-requires
-rule-q-requires c κs = search needs
-
-rule-p-after-requires : tie.Need-rule-p-after-requires
-rule-p-after-requires c κs = search needs
-
-rule-q-after-requires : tie.Need-rule-q-after-requires
-rule-q-after-requires c κs = search needs
-
-rule-layer-requires : tie.Need-rule-layer-requires
-rule-layer-requires c κs = search needs
+read-rule-requires : tie.Need-read-rule-requires
+read-rule-requires c κs = search needs
 
 cast-n : tie.Need-cast-n
 cast-n c = search needs
@@ -25,17 +15,7 @@ cast-m : tie.Need-cast-m
 cast-m c = search needs
 
 returns : tie.Need-returns
-returns c = cc
+returns c = ap (badFields (c .before .before .before .before .before .before .before .before .before .before .before .before .before .args .z)) (c .before .before .before .before .before .before .before .before .before .before .before .read-rule .ensures)
 
 pub rule-bad-spec : {M : Type 1} → statement M
-rule-bad-spec =
-    tie.close
-    (tie.spec
-    rule-p-requires
-    rule-q-requires
-    rule-p-after-requires
-    rule-q-after-requires
-    rule-layer-requires
-    cast-n
-    cast-m
-    returns)
+rule-bad-spec = tie.close (tie.spec read-rule-requires cast-n cast-m returns)

@@ -96,10 +96,10 @@ pub repeats-found : (rules : List ℕ) (r k : ℕ) → k ≡ firstBelow r (sameP
 unfolding repeats
 repeats-found rules r k = found r (samePair rules r) k
 
-pub layer-found : (z : Sizes) (rules layers : List ℕ) (l k j : ℕ) → k ≡ firstBelow (z .rules) (inLayer rules l) → j ≡ firstBelow (z .states) (tooLarge (z .states) layers l)
-    → not (ltb k (z .rules)) || ltb j (z .states) ≡ badLayer z rules layers l
+pub layer-found : (z : Sizes) (rules layers : List ℕ) (l j : ℕ) (t : Bool) → t ≡ anyBelow (z .rules) (inLayer rules l) → j ≡ firstBelow (z .states) (tooLarge (z .states) layers l)
+    → not t || ltb j (z .states) ≡ badLayer z rules layers l
 unfolding badLayer
-layer-found z rules layers l k j e d = rw (found (z .rules) (inLayer rules l) k e, found (z .states) (tooLarge (z .states) layers l) j d)
+layer-found z rules layers l j t e d = rw (e, found (z .states) (tooLarge (z .states) layers l) j d)
 
 -- ---- The whole
 

@@ -1,24 +1,26 @@
--- Laws for test 7, which marks the before pairs it has met. Assumes nothing.
-use mathlib.Core.Path.{_≡_, sym, ap, _∙_}
-use mathlib.Core.Bool.{Bool, true, false, _||_, _&&_}
+-- Laws for test 7, which marks the before pairs it has met, and for test 8, which marks the layers. Assumes nothing.
+use mathlib.Core.Path.{_≡_, refl, sym, ap, _∙_, fun-ext}
+use mathlib.Core.Bool.{Bool, true, false, _||_, _&&_, and-false, or-comm}
 use mathlib.Core.List.{List}
 use mathlib.Core.Logic.{by-cases}
-use Prim.Native.Nat.{ℕ, _+_, _<_, _%_}
+use Prim.Native.Nat.{ℕ, _+_, _≤_, _<_, _%_}
 use native.Mathlib.Decide.{decLt, ℕ-discrete}
+use native.Mathlib.Numerals.{add-one}
 use native.Mathlib.Omega.{arith}
-use borrow.Author.Tests.{eq-eqb, eqb-true}
+use borrow.Author.Tests.{lt-ltb, eq-eqb, eqb-true}
 use lib.Dec.{ltb, eqb}
 use lib.ListN.{length, getD, set, length-set}
 use lib.Seq.{getD-set-same, getD-set-other}
 use Rattle.theory.specs.Test.{member}
 use Rattle.theory.specs.Test.Laws.{by-test, not-both, is-false, and-elim, or-left, or-right}
-use Rattle.theory.specs.Below.{firstBelow}
+use Rattle.theory.specs.Below.{anyBelow, firstBelow}
+use Rattle.theory.specs.Below.Scan.{found}
 use Rattle.theory.specs.Below.Laws.{any-elim}
-use Rattle.bits.specs.Word.{singleOf, unionOf}
-use Rattle.bits.specs.Word.Laws.{single-below}
+use Rattle.bits.specs.Word.{singleOf, unionOf, withIf}
+use Rattle.bits.specs.Word.Laws.{member-none, single-below}
 use Rattle.format.specs.Bytes.{Value}
-use Rattle.format.specs.Format.{ruleP, ruleQ}
-use Rattle.shape.specs.Shape.{samePair, repeats}
+use Rattle.format.specs.Format.{ruleP, ruleQ, ruleLayer}
+use Rattle.shape.specs.Shape.{samePair, inLayer, repeats, usedBelow}
 use Rattle.shape.specs.Shape.Laws.{repeats-found}
 
 -- The before pairs of the rules below n are marked: word p has bit q, both modulo 64.
@@ -68,3 +70,33 @@ module _ (rules marks : List ℕ) (i p q : ℕ) (met : Marked rules marks i) (vp
       other h =
           rw (getD-set-other marks (p % 64) (ruleP rules e % 64) w 0 h)
           (met e (by-cases (decLt e i) (λ l. l) (λ g. absurd (h (let k : e ≡ i = omega arith in ap (λ j. ruleP rules j % 64) k ∙ ap (_% 64) (sym (vp .is)))))))
+
+-- ---- Test 8
+
+both : (x a e : Bool) → (x && a) || (x && e) ≡ x && (e || a)
+both true a e = or-comm a e
+both false a e = refl
+
+module _ (rules : List ℕ) where
+  pub used-none : member 0 ≡ usedBelow rules 0
+  unfolding usedBelow anyBelow
+  used-none = fun-ext (λ l. member-none l ∙ sym (and-false (ltb l 64)))
+
+  pub used-more : (r w v k : ℕ) → member w ≡ usedBelow rules r → Value 256 (ruleLayer rules r) k → member v ≡ withIf true k w → member v ≡ usedBelow rules (r + 1)
+  unfolding usedBelow anyBelow withIf
+  used-more r w v k h x d =
+      fun-ext
+      (λ l.
+      ap (λ (A : ℕ → Bool). A l) d
+      ∙ ap (λ (A : ℕ → Bool). A l || (ltb l 64 && eqb k l)) h
+      ∙ rw (add-one r, x .is) (both (ltb l 64) (anyBelow r (inLayer rules l)) (eqb (ruleLayer rules r) l)))
+
+  pub used-done : (r n w : ℕ) → member w ≡ usedBelow rules r → r ≤ n → n ≤ r → member w ≡ usedBelow rules n
+  used-done r n w h l m = h ∙ ap (usedBelow rules) (let e : r ≡ n = omega arith in e)
+
+  pub used-is : (n w l : ℕ) (t : Bool) → member w ≡ usedBelow rules n → l < 64 → t ≡ member w l → t ≡ anyBelow n (inLayer rules l)
+  unfolding usedBelow
+  used-is n w l t h b e = e ∙ ap (λ (A : ℕ → Bool). A l) h ∙ rw (lt-ltb l 64 b)
+
+  pub used-found : (n l k : ℕ) → k ≡ firstBelow n (inLayer rules l) → ltb k n ≡ anyBelow n (inLayer rules l)
+  used-found n l k = found n (inLayer rules l) k

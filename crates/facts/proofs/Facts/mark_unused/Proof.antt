@@ -1,8 +1,8 @@
--- The word of the rule is joined with its bit; where there is no such run or rule nothing is to be marked.
-use Rattle.facts.specs.Facts.Laws.{marks}
+-- The word is joined with the set; where there is no such run or word nothing is to be marked.
 use borrow.Author.Needs.{needs}
 use Rattle.facts.proofs.Facts.mark_unused.Statement.{statement}
 use Rattle.facts.proofs.Facts.mark_unused.Tie as tie
+use Rattle.facts.specs.Facts.Laws.{marks}
 
 returns : tie.Need-returns
 returns c = search (marks, needs)
@@ -15,9 +15,6 @@ mul-at c = search needs
 
 add-at : tie.Need-add-at
 add-at c = search needs
-
-single-requires : tie.Need-single-requires
-single-requires c κs = search needs
 
 mul-union : tie.Need-mul-union
 mul-union c = search needs
@@ -45,7 +42,6 @@ mark-unused-spec =
     returns-2
     mul-at
     add-at
-    single-requires
     mul-union
     element-copy-out-union
     union-requires

@@ -1,30 +1,30 @@
-//! Times the proved implementation, through C, against the same methods in Rust, in one process and on the same input.
+//! Times the proved implementation, through C, against the same methods in Rust, in one process and on the same input;
+//! and against the second implementation of `tests`, which is plain rather than fast.
 //!
 //!     bench            times all cases
 //!     bench WORD       times the cases whose name has the word
-//!     bench answers    times nothing: both must say the same in every case
+//!     bench answers    times nothing: all three must say the same in every case
 //!
-//! Each round times both, one after the other, over as many repetitions as take some milliseconds. The ratio of a case is
-//! the median of its rounds' ratios: below 1, the proved implementation is the faster one.
+//! Each round times all three, one after the other, over as many repetitions as take some milliseconds. A ratio is the
+//! median of the rounds' ratios: below 1, the proved implementation is the faster one.
 
 mod baseline;
 
 use std::hint::black_box;
 use std::time::Instant;
-use tests::calls::Call;
+use tests::calls::{self, Call};
 use tests::second::Docket;
 use tests::{make, native, second};
 
 const ROUNDS: usize = 15;
 const LEAST_SECONDS: f64 = 0.004;
 
-/// One case: what is timed, how many things one call does, and the two implementations.
+/// One case: what is timed, how many things one call does, and the three implementations: proved, baseline, second.
 struct Case<'a> {
     name: String,
     unit: &'static str,
     units: u64,
-    proved: Box<dyn FnMut() -> u64 + 'a>,
-    baseline: Box<dyn FnMut() -> u64 + 'a>,
+    calls: [Box<dyn FnMut() -> u64 + 'a>; 3],
 }
 
 fn main() {
@@ -32,7 +32,10 @@ fn main() {
     if word == "answers" {
         return compare_answers();
     }
-    println!("{:<52} {:>12} {:>12}  {:>6}", "case", "proved", "baseline", "ratio");
+    println!(
+        "{:<52} {:>12} {:>12} {:>6} {:>7}",
+        "case", "proved", "baseline", "ratio", "second"
+    );
     let inputs = Inputs::new();
     let mut ratios = vec![];
     for case in inputs.cases() {
@@ -53,34 +56,31 @@ fn compare_answers() {
 }
 
 fn same_answer(case: &mut Case) {
+    let [proved, baseline, second] = &mut case.calls;
+    let answer = proved();
+    assert_eq!(answer, baseline(), "{}: the baseline answers otherwise", case.name);
     assert_eq!(
-        (case.proved)(),
-        (case.baseline)(),
-        "{}: the two answers differ",
+        answer,
+        second(),
+        "{}: the second implementation answers otherwise",
         case.name
     );
 }
 
-/// Prints nanoseconds a unit for both, and hands back the median ratio.
+/// Prints nanoseconds a unit and the two ratios; hands back that to the baseline.
 fn time(mut case: Case) -> f64 {
-    assert_eq!(
-        (case.proved)(),
-        (case.baseline)(),
-        "{}: the two answers differ",
-        case.name
-    );
-    let repetitions = repetitions(&mut case.proved);
+    same_answer(&mut case);
+    let repetitions = repetitions(&mut case.calls[0]);
     let mut rounds: Vec<[f64; 3]> = vec![];
     for _ in 0..ROUNDS {
-        let proved = seconds(&mut case.proved, repetitions);
-        let baseline = seconds(&mut case.baseline, repetitions);
-        rounds.push([proved, baseline, proved / baseline]);
+        rounds.push(std::array::from_fn(|i| seconds(&mut case.calls[i], repetitions)));
     }
     let each = 1e9 / (repetitions * case.units) as f64;
-    let [proved, baseline, ratio] = [0, 1, 2].map(|column| median(rounds.iter().map(|round| round[column]).collect()));
-    let (proved, baseline) = (proved * each, baseline * each);
+    let of = |value: &dyn Fn(&[f64; 3]) -> f64| median(rounds.iter().map(value).collect());
+    let (proved, baseline) = (of(&|round| round[0] * each), of(&|round| round[1] * each));
+    let (ratio, second) = (of(&|round| round[0] / round[1]), of(&|round| round[0] / round[2]));
     println!(
-        "{:<52} {proved:>9.1} ns {baseline:>9.1} ns  {ratio:>6.2}  a {}",
+        "{:<52} {proved:>9.1} ns {baseline:>9.1} ns {ratio:>6.2} {second:>7.2}  a {}",
         case.name, case.unit
     );
     ratio
@@ -132,11 +132,8 @@ impl Inputs {
                 .iter()
                 .map(|(name, docket, counts)| run_case(name, docket, counts)),
         );
-        cases.extend(
-            self.runs
-                .iter()
-                .map(|(name, docket, counts)| standstill_case(name, docket, counts)),
-        );
+        let small_groups = self.runs.iter().take(self.runs.len() / 2);
+        cases.extend(small_groups.map(|(name, docket, counts)| refused_case(name, docket, counts)));
         cases
     }
 }
@@ -177,8 +174,11 @@ fn check_case<'a>(name: &str, docket: &'a [u8]) -> Case<'a> {
         name: name.into(),
         unit: "check",
         units: 1,
-        proved: Box::new(move || native::check(black_box(docket))),
-        baseline: Box::new(move || baseline::check_code(black_box(docket))),
+        calls: [
+            Box::new(move || native::check(black_box(docket))),
+            Box::new(move || baseline::check_code(black_box(docket))),
+            Box::new(move || calls::check_code(black_box(docket))),
+        ],
     }
 }
 
@@ -226,30 +226,33 @@ const LIMIT: u32 = 100_000;
 fn run_case<'a>(name: &str, docket: &'a [u8], counts: &'a [u32]) -> Case<'a> {
     let mut after = counts.to_vec();
     let meetings = native::say(docket, &mut after, Call::Run(LIMIT)).answers[0];
+    let run = move |run: &dyn Fn(&mut [u32]) -> u64| {
+        let mut group = black_box(counts).to_vec();
+        run(&mut group) + u64::from(group[0])
+    };
     Case {
         name: format!("run, {name}"),
         unit: "meeting",
         units: meetings,
-        proved: Box::new(move || {
-            let mut group = black_box(counts).to_vec();
-            native::say(docket, &mut group, Call::Run(LIMIT)).answers[0] + u64::from(group[0])
-        }),
-        baseline: Box::new(move || {
-            let mut group = black_box(counts).to_vec();
-            baseline::run(docket, &mut group, LIMIT).map_or(0, |(steps, _)| steps) + u64::from(group[0])
-        }),
+        calls: [
+            Box::new(move || run(&|group| native::say(docket, group, Call::Run(LIMIT)).answers[0])),
+            Box::new(move || run(&|group| baseline::run(docket, group, LIMIT).map_or(0, |(steps, _)| steps))),
+            Box::new(move || run(&|group| calls::say(docket, group, Call::Run(LIMIT)).answers[0])),
+        ],
     }
 }
 
-/// A call that makes tests 1 to 8 and looks for one rule.
-fn standstill_case<'a>(name: &str, docket: &'a [u8], counts: &'a [u32]) -> Case<'a> {
-    let mut group = counts.to_vec();
-    let mut other = counts.to_vec();
+/// A step that is refused for its rule number: tests 1 to 8, 20 and 21, and no more.
+fn refused_case<'a>(name: &str, docket: &'a [u8], counts: &'a [u32]) -> Case<'a> {
+    let [mut first, mut second, mut third] = [counts.to_vec(), counts.to_vec(), counts.to_vec()];
     Case {
         name: format!("step refused, {name}"),
         unit: "call",
         units: 1,
-        proved: Box::new(move || native::say(black_box(docket), &mut group, Call::Step(1000)).code),
-        baseline: Box::new(move || baseline::step_code(black_box(docket), &mut other, 1000)),
+        calls: [
+            Box::new(move || native::say(black_box(docket), &mut first, Call::Step(1000)).code),
+            Box::new(move || baseline::step_code(black_box(docket), &mut second, 1000)),
+            Box::new(move || calls::say(black_box(docket), &mut third, Call::Step(1000)).code),
+        ],
     }
 }

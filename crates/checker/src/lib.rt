@@ -1,6 +1,7 @@
 // The check of a docket: tests 1 to 13 in order. Any bytes may be given.
 ghost use mathlib.Core.Path.{_≡_};
 ghost use Rattle.shape.specs.Sound.{SoundShape};
+ghost use Rattle.ladder.specs.Ladder.{SoundPairs};
 ghost use Rattle.node.specs.Node.{SoundRules};
 ghost use Rattle.tree.specs.Tree.{treeAnswerOf};
 ghost use Rattle.checker.specs.Check.{figuresOf, treeCheck, partsCheck, certificateOf, checkOf, walkNumber, walkPlace};
@@ -83,6 +84,7 @@ fn parts_check(
     z: Sizes,
 ) -> Checked
     requires { ⌜ SoundRules z (now rules) ⌝ }
+    requires { ⌜ SoundPairs z (now rules) ⌝ }
     ensures { λ r. ⌜ r ≡ partsCheck z (now (states .entry)) (now (rules .entry)) (now (layers .entry)) (now (nodes .entry)) (now (leaves .entry)) ⌝ }
 {
     let r = ladder::lowering_fault(rules, layers, z);

@@ -1,9 +1,11 @@
 -- The ladder of a docket's sections (document 01, "The ladder"), and what the functions of the handover test answer.
-use mathlib.Core.Bool.{Bool, cond, not, _&&_, _||_}
+use mathlib.Core.Path.{_≡_}
+use mathlib.Core.Bool.{Bool, false, cond, not, _&&_}
 use mathlib.Core.List.{List, []}
-use Prim.Native.Nat.{ℕ, _+_}
+use Prim.Native.Nat.{ℕ, _+_, _*_, _≤_, _<_}
 use lib.Dec.{leb, ltb, eqb}
-use Rattle.theory.specs.Test.{imp, bit}
+use lib.ListN.{length}
+use Rattle.theory.specs.Test.{member, imp, bit}
 use Rattle.theory.specs.Below.{anyBelow}
 use Rattle.theory.specs.Protocol.{Protocol}
 use Rattle.theory.specs.Ladder.{isLower, fits}
@@ -43,14 +45,31 @@ preSequenceOf n s u =
       fourth = beyondOf n (s .p2) (s .q2) (u .q) (inPair (u .p) (u .q) (u .q));
     }
 
--- x is no state, or j has as many agents of it as the pair p, q.
-abbrev pub coversOf : ℕ → PreSequence → ℕ → ℕ → ℕ → Bool
-coversOf n j p q x = leb n x || leb (inPair p q x) (inPair (j .first) (j .second) x + inPair (j .third) (j .fourth) x)
+-- How many agents of state x j has.
+abbrev pub heldOf : PreSequence → ℕ → ℕ
+heldOf j x = inPair (j .first) (j .second) x + inPair (j .third) (j .fourth) x
 
--- x is a state of which j has no agent.
-abbrev pub absentOf : ℕ → PreSequence → ℕ → Bool
-absentOf n j x = ltb x n && not (eqb (j .first) x) && not (eqb (j .second) x) && not (eqb (j .third) x) && not (eqb (j .fourth) x)
+-- j has as many agents of state x as the pair p, q.
+abbrev pub coversOf : PreSequence → ℕ → ℕ → ℕ → Bool
+coversOf j p q x = leb (inPair p q x) (heldOf j x)
 
 -- Rule v is of a layer below l, and j covers its before pair: it is enough to look at the two states of the pair.
-unfoldable pub fitsIn : ℕ → List ℕ → ℕ → PreSequence → ℕ → Bool
-fitsIn n rules l j v = ltb (ruleLayer rules v) l && (coversOf n j (ruleP rules v) (ruleQ rules v) (ruleP rules v) && coversOf n j (ruleP rules v) (ruleQ rules v) (ruleQ rules v))
+unfoldable pub fitsIn : List ℕ → ℕ → PreSequence → ℕ → Bool
+fitsIn rules l j v = ltb (ruleLayer rules v) l && (coversOf j (ruleP rules v) (ruleQ rules v) (ruleP rules v) && coversOf j (ruleP rules v) (ruleQ rules v) (ruleQ rules v))
+
+-- Of a state below 64 that is not in the set w, j has no agent.
+pub record Holds (j : PreSequence) (w : ℕ) : Type 0 where
+  pub none : (x : ℕ) → x < 64 → member w x ≡ false → heldOf j x ≡ 0
+
+-- Rule v is inside the section, and a word holds the states of its before pair.
+pub record SoundPair (rules : List ℕ) (v : ℕ) : Type 0 where
+  pub whole : 5 * v + 4 < length rules
+  pub p-lt : ruleP rules v < 64
+  pub q-lt : ruleQ rules v < 64
+
+-- What handover needs of tests 3, 4 and 6: a word holds the states, the section is whole, and the before pairs are of states.
+pub record SoundPairs (z : Sizes) (rules : List ℕ) : Type 0 where
+  pub states-most : z .states ≤ 64
+  pub whole : 5 * z .rules ≤ length rules
+  pub p-lt : (r : ℕ) → r < z .rules → ruleP rules r < z .states
+  pub q-lt : (r : ℕ) → r < z .rules → ruleQ rules r < z .states

@@ -1,4 +1,4 @@
-// The ladder of a docket: lowering (test 9), handover (test 10) and the sum of the spreads. Any bytes and any sizes may be given.
+// The ladder of a docket: lowering (test 9), handover (test 10) and the sum of the spreads. Handover wants the rules of a sound shape; the others take any bytes and any sizes.
 ghost use mathlib.Core.Path.{_≡_};
 ghost use mathlib.Core.Bool.{not};
 ghost use mathlib.Core.List.{[]};
@@ -7,7 +7,7 @@ ghost use Rattle.theory.specs.Below.{firstBelow};
 ghost use Rattle.theory.specs.Ladder.{lowersAt, handoverAt, spread, spreads};
 ghost use Rattle.format.specs.Bytes.{Value};
 ghost use Rattle.format.specs.Format.{layerWeight};
-ghost use Rattle.ladder.specs.Ladder.{ladderOf, inPair, beyondOf, preSequenceOf, coversOf, absentOf, fitsIn};
+ghost use Rattle.ladder.specs.Ladder.{ladderOf, inPair, beyondOf, preSequenceOf, coversOf, Holds, SoundPair, SoundPairs, fitsIn};
 use format::Rule;
 use format::Sizes;
 
@@ -86,41 +86,51 @@ fn pre_sequence(n: usize, s: Rule, u: Rule) -> PreSequence
     }
 }
 
-// Whether x is no state, or j has as many agents of it as the pair p, q.
-fn covers(n: usize, j: PreSequence, p: usize, q: usize, x: usize) -> bool
-    ensures { λ t. ⌜ t ≡ coversOf n j p q x ⌝ }
+// Whether j has as many agents of state x as the pair p, q.
+fn covers(j: PreSequence, p: usize, q: usize, x: usize) -> bool
+    ensures { λ t. ⌜ t ≡ coversOf j p q x ⌝ }
 {
     let held = in_pair(j.first, j.second, x) + in_pair(j.third, j.fourth, x);
-    (n <= x) | (in_pair(p, q, x) <= held)
+    in_pair(p, q, x) <= held
 }
 
-// Whether x is a state of which j has no agent.
-fn absent(n: usize, j: PreSequence, x: usize) -> bool
-    ensures { λ t. ⌜ t ≡ absentOf n j x ⌝ }
+// The states of j as a set. It may also have the number of states, which stands for no agent.
+fn states_of(j: PreSequence) -> u64
+    ensures { λ w. ⌜ Holds j w ⌝ }
 {
-    (x < n) & (j.first != x) & (j.second != x) & (j.third != x) & (j.fourth != x)
+    let before = bits::union(bits::single(j.first), bits::single(j.second));
+    let left = bits::union(bits::single(j.third), bits::single(j.fourth));
+    bits::union(before, left)
 }
 
-// Whether rule v is of a layer below this one, with its before pair inside j.
-fn rule_fits(rules: &[u8], n: usize, layer: usize, j: PreSequence, v: u16) -> bool
-    ensures { λ t. ⌜ t ≡ fitsIn n (now (rules .entry)) layer j v ⌝ }
+// Whether rule v is of a layer below this one, with its before pair inside j. Most rules have a state outside the set of the states of j, which is quick to see.
+fn rule_fits(rules: &[u8], layer: usize, j: PreSequence, set: u64, v: u16) -> bool
+    requires { ⌜ SoundPair (now rules) v ⌝ }
+    requires { ⌜ Holds j set ⌝ }
+    ensures { λ t. ⌜ t ≡ fitsIn (now (rules .entry)) layer j v ⌝ }
 {
-    if layer <= format::rule_layer(rules, v) {
+    let at = 5 * (v as usize);
+    let other = rules[at + 4] as usize;
+    if layer <= other {
         return false;
     }
-    let p = format::rule_p(rules, v);
-    if absent(n, j, p) {
+    let p = rules[at] as usize;
+    if !bits::has_below(set, p) {
         return false;
     }
-    let q = format::rule_q(rules, v);
-    if covers(n, j, p, q, p) {
-        return covers(n, j, p, q, q);
+    let q = rules[at + 1] as usize;
+    if !bits::has_below(set, q) {
+        return false;
+    }
+    if covers(j, p, q, p) {
+        return covers(j, p, q, q);
     }
     false
 }
 
 // Test 10: the lowest rule s at which handover fails, or the number of rules.
 pub fn handover_fault(rules: &[u8], z: Sizes) -> u16
+    requires { ⌜ SoundPairs z (now rules) ⌝ }
     ensures { λ i. ⌜ i ≡ firstBelow (z .rules) (λ s. not (handoverAt (ladderOf z (now (rules .entry)) []) s)) ⌝ }
 {
     let n = z.states as usize;
@@ -133,12 +143,13 @@ pub fn handover_fault(rules: &[u8], z: Sizes) -> u16
             let other = format::read_rule(rules, u);
             if other.layer < layer {
                 let j = pre_sequence(n, rule, other);
+                let set = states_of(j);
                 let mut v: u16 = 0;
                 'search: loop {
                     if v == z.rules {
                         break 'test;
                     }
-                    if rule_fits(rules, n, layer, j, v) {
+                    if rule_fits(rules, layer, j, set, v) {
                         break 'search;
                     }
                     v += 1;

@@ -1,5 +1,5 @@
 -- `checker::certificate` meets its contract: the sections are those of the docket.
-use Rattle.checker.specs.Check.Laws.{rules-sound, sections-are}
+use Rattle.checker.specs.Check.Laws.{rules-sound, pairs-sound, sections-are}
 use borrow.Author.Needs.{needs}
 use Rattle.checker.proofs.certificate.Statement.{statement}
 use Rattle.checker.proofs.certificate.Tie as tie
@@ -20,7 +20,7 @@ leaves-part-requires : tie.Need-leaves-part-requires
 leaves-part-requires c κs = search needs
 
 parts-check-requires : tie.Need-parts-check-requires
-parts-check-requires c κs = search (rules-sound, needs)
+parts-check-requires c κs = search (rules-sound, pairs-sound, needs)
 
 returns : tie.Need-returns
 returns c = search (sections-are, needs)

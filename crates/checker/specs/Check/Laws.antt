@@ -11,9 +11,10 @@ use Rattle.format.specs.declared.Header.{Header}
 use Rattle.shape.specs.Judge.{judge}
 use Rattle.shape.specs.Judge.Laws.{judge-hit, judge-pass, judge-done}
 use Rattle.shape.specs.Sound.{SoundShape}
+use Rattle.shape.specs.Sound.Laws.{sound-lengths}
 use Rattle.shape.specs.declared.Shape.the-variants as shape-is
-use Rattle.ladder.specs.Ladder.{ladderOf}
-use Rattle.ladder.specs.Ladder.Laws.{lowering-place, handover-place, spreads-total}
+use Rattle.ladder.specs.Ladder.{ladderOf, SoundPairs}
+use Rattle.ladder.specs.Ladder.Laws.{sound-pairs, lowering-place, handover-place, spreads-total}
 use Rattle.leaf.specs.Leaf.{badLeaf}
 use Rattle.node.specs.Node.{SoundRules}
 use Rattle.node.specs.Node.Laws.{sound-rules}
@@ -35,6 +36,10 @@ module _ (b : List ℕ) (h : Header) (states rules layers nodes leaves : List �
 
 pub rules-sound : (b : List ℕ) (h : Header) (rules : List ℕ) → rules ≡ partsOf b h .rules → SoundShape b h → SoundRules (h .sizes) rules
 rules-sound b h rules er sound = rw er (sound-rules (h .sizes) (partsOf b h .states) (partsOf b h .rules) (partsOf b h .layers) (sound .limits) (sound .parts))
+
+pub pairs-sound : (b : List ℕ) (h : Header) (rules : List ℕ) → rules ≡ partsOf b h .rules → SoundShape b h → SoundPairs (h .sizes) rules
+pairs-sound b h rules er sound =
+    rw er (sound-pairs (h .sizes) (partsOf b h .states) (partsOf b h .rules) (partsOf b h .layers) (sound .limits) (sound-lengths b h sound .rules) (sound .parts))
 
 -- ---- Tests 9 to 11
 

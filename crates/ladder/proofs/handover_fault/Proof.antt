@@ -8,17 +8,17 @@ use native.Mathlib.Omega.{arith}
 use Rattle.theory.specs.Below.Scan.{Clear, scan, clear-more, first-hit}
 use Rattle.theory.specs.Ladder.{handoverAt}
 use Rattle.ladder.specs.Ladder.{ladderOf, fitting, uncovered}
-use Rattle.ladder.specs.Ladder.Laws.{fits-turn, not-lower, covered-by, covered-by-none, covered-passes, uncovered-fails}
+use Rattle.ladder.specs.Ladder.Laws.{sound-pair, fits-turn, not-lower, covered-by, covered-by-none, covered-passes, uncovered-fails}
 use Rattle.format.specs.declared.Rule.{Rule}
 use borrow.Author.Needs.{needs}
 use Rattle.ladder.proofs.handover_fault.Statement.{statement}
 use Rattle.ladder.proofs.handover_fault.Tie as tie
 
 abbrev Inv-search : tie.InvT-search
-Inv-search rules z n s rule layer u j v₀ v = (v ≤ z .rules) × Clear (fitting (ladderOf z rules []) s u) v
+Inv-search rules z n s rule layer u j set v₀ v = (v ≤ z .rules) × Clear (fitting (ladderOf z rules []) s u) v
 
 abbrev μ-search : tie.MeasureT-search
-μ-search rules z n s rule layer u j v₀ v = z .rules - v
+μ-search rules z n s rule layer u j set v₀ v = z .rules - v
 
 abbrev Inv-loop : tie.InvT-loop
 Inv-loop rules z n s rule layer u₀ u = (u ≤ z .rules) × Clear (uncovered (ladderOf z rules []) s) u
@@ -56,9 +56,14 @@ pre-sequence-requires c κs = search needs
 search-holds : tie.Need-search-holds Inv-search μ-search Inv-loop μ-loop Inv-test μ-test
 search-holds c = search (scan, needs)
 
+states-of-requires : tie.Need-states-of-requires Inv-search μ-search Inv-loop μ-loop Inv-test μ-test
+states-of-requires c κs = search needs
+
 rule-fits-requires :
     tie.Need-rule-fits-requires Inv-search μ-search Inv-loop μ-loop Inv-test μ-test
-rule-fits-requires c κs = search needs
+rule-fits-requires c κs =
+    let start = c .before .before .before .before .before .before .before .before .before .before .before .before .before .before .before .before .before in
+    (sound-pair _ _ (start .pre) _ (omega arith), c .before .before .before .states-of .ensures)
 
 add-v : tie.Need-add-v Inv-search μ-search Inv-loop μ-loop Inv-test μ-test
 add-v c = search needs
@@ -68,10 +73,10 @@ search-less c = search needs
 
 search-again : tie.Need-search-again Inv-search μ-search Inv-loop μ-loop Inv-test μ-test
 search-again c =
-    let at-u = c .before .before .before .before .before .before .before .before in
+    let at-u = c .before .before .before .before .before .before .before .before .before in
     let at-s = at-u .before .before .before .before in
     let start = at-s .before .before .before .before .before .before in
-    let fit = fits-turn (start .args .z) _ _ _ _ _ _ _ _ (at-s .read-rule .ensures) (at-u .read-rule2 .ensures) (c .before .before .before .before .before .pre-sequence .ensures) (c .before .rule-fits .ensures) in
+    let fit = fits-turn _ _ (start .pre) _ (omega arith) _ _ _ _ _ _ (at-s .read-rule .ensures) (at-u .read-rule2 .ensures) (c .before .before .before .before .before .before .pre-sequence .ensures) (c .before .rule-fits .ensures) in
     (omega arith, clear-more _ _ _ (c .before .before .before .before .search .inv .1) fit (c .if5 .left))
 
 add-u : tie.Need-add-u Inv-search μ-search Inv-loop μ-loop Inv-test μ-test
@@ -90,7 +95,7 @@ loop-again c =
     let u = at-u .before .before .before .loop .u in
     let covered : uncovered P s u ≡ false =
     elim (c .if3 .came) [
-      | inl w ↦ covered-by P s u (w .2 .v) (omega arith) (sym (fits-turn (start .args .z) _ _ _ _ _ _ _ _ (at-s .read-rule .ensures) (at-u .read-rule2 .ensures) (w .1 .ensures) (w .5 .ensures)) ∙ w .6 .taken)
+      | inl w ↦ covered-by P s u (w .3 .v) (omega arith) (sym (fits-turn _ _ (start .pre) _ (omega arith) _ _ _ _ _ _ (at-s .read-rule .ensures) (at-u .read-rule2 .ensures) (w .1 .ensures) (w .6 .ensures)) ∙ w .7 .taken)
       | inr w ↦ not-lower P s u (omega (arith, ap (λ (r : Rule). r .layer) (at-s .read-rule .ensures), ap (λ (r : Rule). r .layer) (at-u .read-rule2 .ensures)))
     ] in
     (omega arith, clear-more _ _ _ (at-u .before .before .before .loop .inv .1) refl covered)
@@ -116,7 +121,7 @@ returns c = search (scan, needs)
 returns-2 : tie.Need-returns-2 Inv-search μ-search Inv-loop μ-loop Inv-test μ-test
 returns-2 c =
     let at-search = c .before .before in
-    let at-u = at-search .before .before .before .before in
+    let at-u = at-search .before .before .before .before .before in
     let at-s = at-u .before .before .before .before in
     let start = at-s .before .before .before .before .before .before in
     let P = ladderOf (start .args .z) (start .args .rules .now) [] in
@@ -142,6 +147,7 @@ handover-fault-spec =
     loop-holds
     read-rule-requires-2
     pre-sequence-requires
+    states-of-requires
     search-holds
     rule-fits-requires
     add-v

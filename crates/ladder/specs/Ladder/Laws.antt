@@ -1,28 +1,31 @@
 -- Laws for the functions of the ladder. Assumes nothing.
 use mathlib.Core.Path.{_≡_, refl, sym, ap, _∙_}
-use mathlib.Core.Bool.{Bool, true, false, not, _&&_, _||_}
+use mathlib.Core.Bool.{Bool, true, false, not, _&&_}
 use mathlib.Core.List.{List, []}
 use mathlib.Core.Logic.{⊎-elim, by-cases}
 use Prim.Native.Nat.{ℕ, zero, suc, _+_, _-_, _≤_, _<_, min, max}
 use native.Mathlib.Decide.{decLt}
 use native.Mathlib.Numerals.{add-one}
 use native.Mathlib.Omega.{arith}
-use borrow.Author.Tests.{ltb-true, leb-true, leb-false, eqb-true, eqb-false, lt-ltb, le-ltb, le-leb, lt-leb, eq-eqb, ne-eqb, not-true, not-false}
+use borrow.Author.Tests.{leb-true, leb-false, eqb-true, eqb-false, lt-ltb, le-ltb, le-leb, lt-leb, eq-eqb, ne-eqb, not-true, not-false}
 use lib.Dec.{leb, ltb, eqb}
+use lib.ListN.{length}
 use mir.Val.{boolByte}
-use Rattle.theory.specs.Test.{imp, bit}
-use Rattle.theory.specs.Test.Laws.{by-test, not-both, is-false, and-elim, and-fails, or-resolve, or-fails, or-none, imp-intro}
+use Rattle.theory.specs.Test.{member, imp, bit}
+use Rattle.theory.specs.Test.Laws.{by-test, not-both, is-false, and-elim, and-fails, or-fails, imp-intro}
 use Rattle.theory.specs.Below.{allBelow, anyBelow, firstBelow, sumBelow, least, greatest}
 use Rattle.theory.specs.Below.Laws.{all-elim, all-intro, any-elim, any-intro}
 use Rattle.theory.specs.Below.Scan.{Clear}
 use Rattle.theory.specs.Protocol.{Protocol}
 use Rattle.theory.specs.Ladder.{lowersAt, isLower, preSequence, fits, handoverAt, leastWeight, spread, spreads}
+use Rattle.bits.specs.Word.{singleOf, unionOf}
 use Rattle.format.specs.Bytes.{Value}
-use Rattle.format.specs.Format.{ruleP, ruleQ, ruleLayer, protocolOf, ruleOf}
+use Rattle.format.specs.Format.{rulesLength, ruleP, ruleQ, ruleLayer, protocolOf, ruleOf}
 use Rattle.format.specs.declared.Sizes.{Sizes}
 use Rattle.format.specs.declared.Rule.{Rule}
+use Rattle.shape.specs.Sound.{Limits, SoundParts}
 use Rattle.ladder.specs.declared.PreSequence.{PreSequence}
-use Rattle.ladder.specs.Ladder.{ladderOf, fitting, uncovered, inPair, beyondOf, preSequenceOf, coversOf, absentOf, fitsIn}
+use Rattle.ladder.specs.Ladder.{ladderOf, fitting, uncovered, inPair, beyondOf, preSequenceOf, heldOf, coversOf, fitsIn, Holds, SoundPair, SoundPairs}
 
 -- ---- The ladder of the sections is that of the whole protocol
 
@@ -134,90 +137,113 @@ module _ (n a b y w x : ℕ) (l : x < n) where
 
 -- ---- Fitting
 
--- Whether the pair p, q is inside J is decided at p and at q.
+-- Whether the pair p, q of states is inside J is decided at p and at q.
 module _ (n : ℕ) (H J : ℕ → ℕ) (same : (x : ℕ) → x < n → H x ≡ J x) (p q : ℕ) where
   abbrev held : ℕ → Bool
-  held x = leb n x || leb (inPair p q x) (H x)
+  held x = leb (inPair p q x) (H x)
 
   abbrev inside : ℕ → Bool
   inside x = leb (inPair p q x) (J x)
 
   held-inside : (x : ℕ) → x < n → held x ≡ true → inside x ≡ true
-  held-inside x l e = le-leb (inPair p q x) (J x) (omega (arith, same x l, leb-true (inPair p q x) (H x) (or-resolve (leb n x) _ (lt-leb n x l) e)))
+  held-inside x l e = le-leb (inPair p q x) (J x) (omega (arith, same x l, leb-true (inPair p q x) (H x) e))
 
-  not-inside : (x : ℕ) → held x ≡ false → allBelow n inside ≡ false
-  not-inside x e =
-      let f = or-fails (leb n x) (leb (inPair p q x) (H x)) e in
-      let l : x < n = leb-false n x (f .0) in
-      is-false _ (λ a. not-both (all-elim n inside a x l) (lt-leb (inPair p q x) (J x) (omega (arith, same x l, leb-false (inPair p q x) (H x) (f .1)))))
+  not-inside : (x : ℕ) → x < n → held x ≡ false → allBelow n inside ≡ false
+  not-inside x l e =
+      is-false _ (λ a. not-both (all-elim n inside a x l) (lt-leb (inPair p q x) (J x) (omega (arith, same x l, leb-false (inPair p q x) (H x) e))))
 
-  pair-inside : (held p && held q) ≡ allBelow n inside
-  pair-inside =
+  pair-inside : p < n → q < n → (held p && held q) ≡ allBelow n inside
+  pair-inside lp lq =
       by-test (held p && held q)
       (λ e. let f = and-elim (held p) (held q) e in e ∙ sym (all-intro n inside (each (f .0) (f .1))))
-      (λ e. e ∙ sym (⊎-elim (not-inside p) (not-inside q) (and-fails (held p) (held q) e)))
+      (λ e. e ∙ sym (⊎-elim (not-inside p lp) (not-inside q lq) (and-fails (held p) (held q) e)))
     where
       each : held p ≡ true → held q ≡ true → (x : ℕ) → x < n → inside x ≡ true
       each f g x l =
           by-state p x
-          (λ e. ap inside (sym e) ∙ held-inside p (omega arith) f)
+          (λ e. ap inside (sym e) ∙ held-inside p lp f)
           (λ e. by-state q x
-          (λ d. ap inside (sym d) ∙ held-inside q (omega arith) g)
+          (λ d. ap inside (sym d) ∙ held-inside q lq g)
           (λ d. le-leb (inPair p q x) (J x) (omega (arith, bit-other p x e, bit-other q x d))))
 
--- A pair with a state that j lacks is not covered.
-absent-not-covered : (n : ℕ) (j : PreSequence) (p q : ℕ) → absentOf n j p ≡ true → coversOf n j p q p ≡ false
-absent-not-covered n j p q e =
-    let f4 = and-elim _ (not (eqb (j .fourth) p)) e in
-    let f3 = and-elim _ (not (eqb (j .third) p)) (f4 .0) in
-    let f2 = and-elim _ (not (eqb (j .second) p)) (f3 .0) in
-    let f1 = and-elim (ltb p n) (not (eqb (j .first) p)) (f2 .0) in
-    or-none _ _ (lt-leb n p (ltb-true p n (f1 .0)))
-    (lt-leb (inPair p q p) (inPair (j .first) (j .second) p + inPair (j .third) (j .fourth) p)
-    (omega (arith, bit-same p p refl, none-at (j .first) (f1 .1), none-at (j .second) (f2 .1), none-at (j .third) (f3 .1), none-at (j .fourth) (f4 .1))))
+-- The set of the states of j, from its four states.
+pub holds-all : (j : PreSequence) (a b c d e f w : ℕ) → member a ≡ singleOf (j .first) → member b ≡ singleOf (j .second) → member c ≡ unionOf a b
+    → member d ≡ singleOf (j .third) → member e ≡ singleOf (j .fourth) → member f ≡ unionOf d e → member w ≡ unionOf c f → Holds j w
+holds-all j a b c d e f w ea eb ec ed ee ef ew = record {
+  none = λ x l t.
+      let halves = or-fails (member c x) (member f x) (sym (at ew x) ∙ t) in
+      let before = or-fails (member a x) (member b x) (sym (at ec x) ∙ halves .0) in
+      let left = or-fails (member d x) (member e x) (sym (at ef x) ∙ halves .1) in
+      omega (arith, none-at x l (j .first) (sym (at ea x) ∙ before .0), none-at x l (j .second) (sym (at eb x) ∙ before .1), none-at x l (j .third) (sym (at ed x) ∙ left .0), none-at x l (j .fourth) (sym (at ee x) ∙ left .1));
+}
   where
-    none-at : (a : ℕ) → not (eqb a p) ≡ true → bit (eqb a p) ≡ 0
-    none-at a d = ap bit (not-true (eqb a p) d)
+    at : {g h : ℕ → Bool} → g ≡ h → (x : ℕ) → g x ≡ h x
+    at s x = ap (λ (k : ℕ → Bool). k x) s
 
--- The branches of rule_fits: m is the layer of rule v, p, q its before pair.
-module _ (n : ℕ) (rules : List ℕ) (l : ℕ) (j : PreSequence) (v m : ℕ) (e : m ≡ ruleLayer rules v) where
-  pub fits-not-lower : l ≤ m → false ≡ fitsIn n rules l j v
+    none-at : (x : ℕ) → x < 64 → (i : ℕ) → singleOf i x ≡ false → bit (eqb i x) ≡ 0
+    none-at x l i t = ap bit (sym (ap (λ (k : Bool). k && eqb i x) (lt-ltb x 64 l)) ∙ t)
+
+-- A pair with a state of which j has no agent is not covered.
+module _ (j : PreSequence) (w : ℕ) (h : Holds j w) (p q : ℕ) where
+  first-missing : p < 64 → member w p ≡ false → coversOf j p q p ≡ false
+  first-missing l e = lt-leb (inPair p q p) (heldOf j p) (omega (arith, h .none p l e, bit-same p p refl))
+
+  second-missing : q < 64 → member w q ≡ false → coversOf j p q q ≡ false
+  second-missing l e = lt-leb (inPair p q q) (heldOf j q) (omega (arith, h .none q l e, bit-same q q refl))
+
+-- The branches of rule_fits: x is a state of rule v, w the set of the states of j.
+module _ (rules : List ℕ) (l : ℕ) (j : PreSequence) (v w x : ℕ) (s : SoundPair rules v) (h : Holds j w) (t : Bool) (g : t ≡ member w x) (k : not t ≡ true) where
+  pub fits-first-missing : x ≡ ruleP rules v → false ≡ fitsIn rules l j v
+  unfolding fitsIn
+  fits-first-missing d = rw (first-missing j w h (ruleP rules v) (ruleQ rules v) (s .p-lt) (ap (member w) (sym d) ∙ sym g ∙ not-true t k), and-false)
+
+  pub fits-second-missing : x ≡ ruleQ rules v → false ≡ fitsIn rules l j v
+  unfolding fitsIn
+  fits-second-missing d = rw (second-missing j w h (ruleP rules v) (ruleQ rules v) (s .q-lt) (ap (member w) (sym d) ∙ sym g ∙ not-true t k), and-false, and-false)
+
+-- m is the layer of rule v, and p, q its before pair.
+module _ (rules : List ℕ) (l : ℕ) (j : PreSequence) (v m : ℕ) (e : m ≡ ruleLayer rules v) where
+  pub fits-not-lower : l ≤ m → false ≡ fitsIn rules l j v
   unfolding fitsIn
   fits-not-lower h = rw (le-ltb (ruleLayer rules v) l (omega arith))
 
-  pub fits-absent : (p : ℕ) (t : Bool) → m < l → p ≡ ruleP rules v → t ≡ absentOf n j p → t ≡ true → false ≡ fitsIn n rules l j v
-  unfolding fitsIn
-  fits-absent p t h d g k =
-      rw (lt-ltb (ruleLayer rules v) l (omega arith), absent-not-covered n j (ruleP rules v) (ruleQ rules v) (ap (absentOf n j) (sym d) ∙ sym g ∙ k))
-
-  module _ (p q : ℕ) (t : Bool) (h : m < l) (d : p ≡ ruleP rules v) (f : q ≡ ruleQ rules v) (g : t ≡ coversOf n j p q p) where
-    pub fits-second : t ≡ true → (b : Bool) → b ≡ coversOf n j p q q → b ≡ fitsIn n rules l j v
+  module _ (p q : ℕ) (t : Bool) (h : m < l) (d : p ≡ ruleP rules v) (f : q ≡ ruleQ rules v) (g : t ≡ coversOf j p q p) where
+    pub fits-second : t ≡ true → (b : Bool) → b ≡ coversOf j p q q → b ≡ fitsIn rules l j v
     unfolding fitsIn
     fits-second k b i = rw (lt-ltb (ruleLayer rules v) l (omega arith), ← d, ← f, sym g ∙ k) i
 
-    pub fits-not-first : t ≡ false → false ≡ fitsIn n rules l j v
+    pub fits-not-first : t ≡ false → false ≡ fitsIn rules l j v
     unfolding fitsIn
     fits-not-first k = rw (lt-ltb (ruleLayer rules v) l (omega arith), ← d, ← f, sym g ∙ k)
 
-module _ (z : Sizes) (rules : List ℕ) (s u : ℕ) where
-  fits-in : (v : ℕ) → fitsIn (z .states) rules (ruleLayer rules s) (preSequenceOf (z .states) (ruleOf rules s) (ruleOf rules u)) v ≡ fitting (ladderOf z rules []) s u v
-  unfolding fitsIn fitting isLower fits
-  fits-in v =
-      ap (λ (t : Bool). ltb (ruleLayer rules v) (ruleLayer rules s) && t)
-      (pair-inside (z .states)
-      (λ x. inPair (j .first) (j .second) x + inPair (j .third) (j .fourth) x)
-      (preSequence (ladderOf z rules []) s u)
-      (λ x l. omega (arith, left-over (z .states) (ruleOf rules s .p2) (ruleOf rules s .q2) (ruleP rules u) (ruleQ rules u) x l))
-      (ruleP rules v) (ruleQ rules v))
-    where
-      j : PreSequence
-      j = preSequenceOf (z .states) (ruleOf rules s) (ruleOf rules u)
+-- What the sound shape of a docket gives.
+pub sound-pairs : (z : Sizes) (states rules layers : List ℕ) → Limits z → length rules ≡ rulesLength z → SoundParts z states rules layers → SoundPairs z rules
+sound-pairs z states rules layers l e g = record { states-most = l .states-most; whole = omega arith; p-lt = g .formed .p-lt; q-lt = g .formed .q-lt }
 
-  -- The test of a turn of the search.
-  pub fits-turn : (v : ℕ) (a b : Rule) (j : PreSequence) (t : Bool) → a ≡ ruleOf rules s → b ≡ ruleOf rules u
-      → j ≡ preSequenceOf (z .states) a b → t ≡ fitsIn (z .states) rules (a .layer) j v
-      → t ≡ fitting (ladderOf z rules []) s u v
-  fits-turn v a b j t e d f g = cc (fits-in v)
+module _ (z : Sizes) (rules : List ℕ) (sound : SoundPairs z rules) (v : ℕ) (l : v < z .rules) where
+  pub sound-pair : SoundPair rules v
+  sound-pair = record {
+    whole = omega (arith, sound .whole);
+    p-lt = omega (arith, sound .p-lt v l, sound .states-most);
+    q-lt = omega (arith, sound .q-lt v l, sound .states-most);
+  }
+
+  module _ (s u : ℕ) where
+    fits-in : fitsIn rules (ruleLayer rules s) (preSequenceOf (z .states) (ruleOf rules s) (ruleOf rules u)) v ≡ fitting (ladderOf z rules []) s u v
+    unfolding fitsIn fitting isLower fits
+    fits-in =
+        ap (λ (t : Bool). ltb (ruleLayer rules v) (ruleLayer rules s) && t)
+        (pair-inside (z .states)
+        (heldOf (preSequenceOf (z .states) (ruleOf rules s) (ruleOf rules u)))
+        (preSequence (ladderOf z rules []) s u)
+        (λ x h. omega (arith, left-over (z .states) (ruleOf rules s .p2) (ruleOf rules s .q2) (ruleP rules u) (ruleQ rules u) x h))
+        (ruleP rules v) (ruleQ rules v) (sound .p-lt v l) (sound .q-lt v l))
+
+    -- The test of a turn of the search.
+    pub fits-turn : (a b : Rule) (j : PreSequence) (t : Bool) → a ≡ ruleOf rules s → b ≡ ruleOf rules u
+        → j ≡ preSequenceOf (z .states) a b → t ≡ fitsIn rules (a .layer) j v
+        → t ≡ fitting (ladderOf z rules []) s u v
+    fits-turn a b j t e d f g = cc fits-in
 
 -- ---- Handover at rule s
 

@@ -339,3 +339,37 @@ pub fn noise(random: &mut Random) -> Vec<u8> {
     }
     bytes
 }
+
+#[cfg(test)]
+mod tests {
+    use super::*;
+    use crate::{make, prover, second};
+
+    #[test]
+    fn rewritten_dockets_stay_accepted() {
+        let mut random = Random::new(1);
+        let mut dockets = vec![
+            make::broadcast(),
+            make::relay(10, 40),
+            make::maximum(&[0, 1, 1, 0, 1]),
+            make::deep(40),
+        ];
+        dockets.push(make::layered(8, 10, 3, 30, 3));
+        dockets.extend((0..40).filter_map(|_| prover::prove(make::majority(), &mut random)));
+        assert!(dockets.len() > 5, "no tree was found for majority");
+        for docket in &dockets {
+            for _ in 0..50 {
+                let bytes = rewritten(docket, &mut random).bytes();
+                assert!(second::check(&bytes).is_ok(), "{}", second::line(&bytes));
+            }
+        }
+    }
+
+    #[test]
+    fn most_damage_shows() {
+        let mut random = Random::new(2);
+        let docket = make::maximum(&[0, 1, 1, 0, 1]);
+        let refused = (0..1000).filter(|_| second::check(&damaged(&docket, &mut random)).is_err());
+        assert!(refused.count() > 600);
+    }
+}

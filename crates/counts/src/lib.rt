@@ -125,14 +125,15 @@ pub fn choose(rules: &[u8], z: Sizes, counts: &[u32]) -> u16
     let mut low = (z.layers as usize) + 1;
     let mut r: u16 = 0;
     while r < z.rules {
-        let t = format::read_rule(rules, r);
-        if t.layer < low {
+        let l = format::rule_layer(rules, r);
+        if l < low {
+            let t = format::read_rule(rules, r);
             if pair_enabled(counts, t.p, t.q) {
-                if t.layer == 0 {
+                if l == 0 {
                     return r;
                 }
                 best = r;
-                low = t.layer;
+                low = l;
             }
         }
         r += 1;

@@ -22,6 +22,9 @@ add-low c = search needs
 loop-holds : tie.Need-loop-holds Inv-loop μ-loop
 loop-holds c = best-none _ _
 
+rule-layer-requires : tie.Need-rule-layer-requires Inv-loop μ-loop
+rule-layer-requires c κs = search needs
+
 read-rule-requires : tie.Need-read-rule-requires Inv-loop μ-loop
 read-rule-requires c κs = search needs
 
@@ -30,11 +33,12 @@ pair-enabled-requires c κs = search needs
 
 returns : tie.Need-returns Inv-loop μ-loop
 returns c =
-    let i = c .before .before .before .before .before .before .before .before .before .loop in
-    let x = c .before .before .before .before .before .before .read-rule in
-    let t = c .before .before .before .pair-enabled in
-    let a = c .before .before .before .before .before .before .before .before .before .before .before .before .before .args in
-    turn-lowest (a .z) (a .rules .now) (a .counts .now) (i .r) (i .best) (i .low) (x .result) (i .inv) (search needs) (x .ensures) (t .result) (t .ensures) (search needs) (search needs) (search needs)
+    let i = c .before .before .before .before .before .before .before .before .loop in
+    let y = c .before .before .before .before .before .rule-layer in
+    let x = c .before .before .before .read-rule in
+    let t = c .before .before .pair-enabled in
+    let a = c .before .before .before .before .before .before .before .before .before .before .before .before .args in
+    turn-lowest (a .z) (a .rules .now) (a .counts .now) (i .r) (i .best) (i .low) (y .result) (i .inv) (search needs) (y .ensures) (x .result) (t .result) (x .ensures) (t .ensures) (search needs) (search needs) (search needs)
 
 add-r : tie.Need-add-r Inv-loop μ-loop
 add-r c = search needs
@@ -44,16 +48,16 @@ loop-less c = search needs
 
 loop-again : tie.Need-loop-again Inv-loop μ-loop
 loop-again c =
-    let i = c .before .before .before .before .before .loop in
-    let x = c .before .before .read-rule in
-    let a = c .before .before .before .before .before .before .before .before .before .args in
+    let i = c .before .before .before .before .loop in
+    let y = c .before .rule-layer in
+    let a = c .before .before .before .before .before .before .before .before .args in
     let l : i .r < a .z .rules = search needs in
     elim (c .if2 .came) [
-      | inl w ↦ rw (w .5, w .6) (turn-take (a .z) (a .rules .now) (a .counts .now) (i .r) (i .best) (i .low) (x .result) (i .inv) l (x .ensures) (w .1 .result) (w .1 .ensures) (w .0 .taken) (w .2 .taken))
+      | inl w ↦ rw (w .5, w .6) (turn-take (a .z) (a .rules .now) (a .counts .now) (i .r) (i .best) (i .low) (y .result) (i .inv) l (y .ensures) (w .1 .result) (w .2 .result) (w .1 .ensures) (w .2 .ensures) (w .0 .taken) (w .3 .taken))
       | inr v ↦
           elim v [
-            | inl w ↦ rw (w .3, w .4) (turn-off (a .z) (a .rules .now) (a .counts .now) (i .r) (i .best) (i .low) (x .result) (i .inv) l (x .ensures) (w .1 .result) (w .1 .ensures) (w .2 .left))
-            | inr w ↦ rw (w .1, w .2) (turn-above (a .z) (a .rules .now) (a .counts .now) (i .r) (i .best) (i .low) (x .result) (i .inv) l (x .ensures) (w .0 .left))
+            | inl w ↦ rw (w .4, w .5) (turn-off (a .z) (a .rules .now) (a .counts .now) (i .r) (i .best) (i .low) (y .result) (i .inv) l (y .ensures) (w .1 .result) (w .2 .result) (w .1 .ensures) (w .2 .ensures) (w .3 .left))
+            | inr w ↦ rw (w .1, w .2) (turn-above (a .z) (a .rules .now) (a .counts .now) (i .r) (i .best) (i .low) (y .result) (i .inv) l (y .ensures) (w .0 .left))
           ]
     ]
 
@@ -69,6 +73,7 @@ choose-spec =
     cast-low
     add-low
     loop-holds
+    rule-layer-requires
     read-rule-requires
     pair-enabled-requires
     returns

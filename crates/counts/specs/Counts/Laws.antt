@@ -22,6 +22,7 @@ use Rattle.theory.specs.Ladder.Layers.{enabledIn-elim}
 use Rattle.theory.specs.Machine.{isSized, isWithin, admit, chosen}
 use Rattle.bits.specs.Word.{withIf}
 use Rattle.bits.specs.Word.Laws.{member-none}
+use Rattle.format.specs.Bytes.{Value}
 use Rattle.format.specs.Format.{ruleLayer, ruleOf, tableOf}
 use Rattle.format.specs.declared.Sizes.{Sizes}
 use Rattle.format.specs.declared.Rule.{Rule}
@@ -235,26 +236,23 @@ module _ (P : Protocol) (c : List ℕ) where
       (λ f. sym (chosen-at best (omega (arith, f .0, h .within)) (f .1) (omega (arith, f .2, f .3)) (λ k l e. omega (arith, least k l e, f .2)) (λ k l e. omega (arith, f .4 k l e, f .2))))
       (h .found)
 
--- A turn of the scan, x being rule r and t whether its before pair is enabled.
-module _ (z : Sizes) (rules c : List ℕ) (r best low : ℕ) (x : Rule) (h : Best (tableOf z rules) c r best low) (l : r < z .rules) (e : x ≡ ruleOf rules r) where
-  layer-is : x .layer ≡ ruleLayer rules r
-  layer-is = ap (λ (y : Rule). y .layer) e
+-- A turn of the scan, k being the layer of rule r, x the rule, and t whether its before pair is enabled.
+module _ (z : Sizes) (rules c : List ℕ) (r best low k : ℕ) (h : Best (tableOf z rules) c r best low) (l : r < z .rules) (v : Value 256 (ruleLayer rules r) k) where
+  pub turn-above : low ≤ k → Best (tableOf z rules) c (r + 1) best low
+  turn-above m = best-skip (tableOf z rules) c r best low h l (λ _. omega (arith, v .is))
 
-  pub turn-above : low ≤ x .layer → Best (tableOf z rules) c (r + 1) best low
-  turn-above m = best-skip (tableOf z rules) c r best low h l (λ _. omega (arith, layer-is))
-
-  module _ (t : Bool) (d : t ≡ pairEnabled c (x .p) (x .q)) where
+  module _ (x : Rule) (t : Bool) (e : x ≡ ruleOf rules r) (d : t ≡ pairEnabled c (x .p) (x .q)) where
     on : t ≡ enabled (tableOf z rules) c r
     on = rule-enabled z rules c r x t e d
 
     pub turn-off : t ≡ false → Best (tableOf z rules) c (r + 1) best low
-    turn-off u = best-skip (tableOf z rules) c r best low h l (λ v. absurd (not-both v (sym on ∙ u)))
+    turn-off u = best-skip (tableOf z rules) c r best low h l (λ w. absurd (not-both w (sym on ∙ u)))
 
-    pub turn-take : x .layer < low → t ≡ true → Best (tableOf z rules) c (r + 1) r (x .layer)
-    turn-take m u = best-take (tableOf z rules) c r best low h l (x .layer) layer-is m (sym on ∙ u)
+    pub turn-take : k < low → t ≡ true → Best (tableOf z rules) c (r + 1) r k
+    turn-take m u = best-take (tableOf z rules) c r best low h l k (v .is) m (sym on ∙ u)
 
-    pub turn-lowest : x .layer < low → x .layer ≡ 0 → t ≡ true → r ≡ chosen (tableOf z rules) c
-    turn-lowest m n u = best-lowest (tableOf z rules) c r best low h l (x .layer) layer-is m n (sym on ∙ u)
+    pub turn-lowest : k < low → k ≡ 0 → t ≡ true → r ≡ chosen (tableOf z rules) c
+    turn-lowest m n u = best-lowest (tableOf z rules) c r best low h l k (v .is) m n (sym on ∙ u)
 
 -- ---- Sets of states
 

@@ -1,11 +1,10 @@
 -- The ladder of a docket's sections (document 01, "The ladder"), and what the functions of the handover test answer.
-use mathlib.Core.Path.{_≡_}
-use mathlib.Core.Bool.{Bool, false, cond, not, _&&_}
+use mathlib.Core.Bool.{Bool, cond, not, _&&_}
 use mathlib.Core.List.{List, []}
 use Prim.Native.Nat.{ℕ, _+_, _*_, _≤_, _<_}
 use lib.Dec.{leb, ltb, eqb}
 use lib.ListN.{length}
-use Rattle.theory.specs.Test.{member, imp, bit}
+use Rattle.theory.specs.Test.{imp, bit}
 use Rattle.theory.specs.Below.{anyBelow}
 use Rattle.theory.specs.Protocol.{Protocol}
 use Rattle.theory.specs.Ladder.{isLower, fits}
@@ -57,9 +56,9 @@ coversOf j p q x = leb (inPair p q x) (heldOf j x)
 unfoldable pub fitsIn : List ℕ → ℕ → PreSequence → ℕ → Bool
 fitsIn rules l j v = ltb (ruleLayer rules v) l && (coversOf j (ruleP rules v) (ruleQ rules v) (ruleP rules v) && coversOf j (ruleP rules v) (ruleQ rules v) (ruleQ rules v))
 
--- Of a state below 64 that is not in the set w, j has no agent.
-pub record Holds (j : PreSequence) (w : ℕ) : Type 0 where
-  pub none : (x : ℕ) → x < 64 → member w x ≡ false → heldOf j x ≡ 0
+-- The states below 64 of which j has an agent.
+unfoldable pub statesIn : PreSequence → ℕ → Bool
+statesIn j x = ltb x 64 && ltb 0 (heldOf j x)
 
 -- Rule v is inside the section, and a word holds the states of its before pair.
 pub record SoundPair (rules : List ℕ) (v : ℕ) : Type 0 where

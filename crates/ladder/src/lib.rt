@@ -7,7 +7,8 @@ ghost use Rattle.theory.specs.Below.{firstBelow};
 ghost use Rattle.theory.specs.Ladder.{lowersAt, handoverAt, spread, spreads};
 ghost use Rattle.format.specs.Bytes.{Value};
 ghost use Rattle.format.specs.Format.{layerWeight};
-ghost use Rattle.ladder.specs.Ladder.{ladderOf, inPair, beyondOf, preSequenceOf, coversOf, Holds, SoundPair, SoundPairs, fitsIn};
+ghost use Rattle.theory.specs.Test.{member};
+ghost use Rattle.ladder.specs.Ladder.{ladderOf, inPair, beyondOf, preSequenceOf, coversOf, statesIn, SoundPair, SoundPairs, fitsIn};
 use format::Rule;
 use format::Sizes;
 
@@ -96,7 +97,7 @@ fn covers(j: PreSequence, p: usize, q: usize, x: usize) -> bool
 
 // The states of j as a set. It may also have the number of states, which stands for no agent.
 fn states_of(j: PreSequence) -> u64
-    ensures { λ w. ⌜ Holds j w ⌝ }
+    ensures { λ w. ⌜ member w ≡ statesIn j ⌝ }
 {
     let before = bits::union(bits::single(j.first), bits::single(j.second));
     let left = bits::union(bits::single(j.third), bits::single(j.fourth));
@@ -106,7 +107,7 @@ fn states_of(j: PreSequence) -> u64
 // Whether rule v is of a layer below this one, with its before pair inside j. Most rules have a state outside the set of the states of j, which is quick to see.
 fn rule_fits(rules: &[u8], layer: usize, j: PreSequence, set: u64, v: u16) -> bool
     requires { ⌜ SoundPair (now rules) v ⌝ }
-    requires { ⌜ Holds j set ⌝ }
+    requires { ⌜ member set ≡ statesIn j ⌝ }
     ensures { λ t. ⌜ t ≡ fitsIn (now (rules .entry)) layer j v ⌝ }
 {
     let at = 5 * (v as usize);

@@ -1,8 +1,8 @@
--- `ladder::states_of` meets its contract: a state that is in none of the four sets is none of the four states.
+-- `ladder::states_of` meets its contract: the set has the four states and no other.
 use borrow.Author.Needs.{needs}
 use Rattle.ladder.proofs.states_of.Statement.{statement}
 use Rattle.ladder.proofs.states_of.Tie as tie
-use Rattle.ladder.specs.Ladder.Laws.{holds-all}
+use Rattle.ladder.specs.Ladder.Laws.{states-are}
 
 single-requires : tie.Need-single-requires
 single-requires c κs = search needs
@@ -26,7 +26,7 @@ union-requires-3 : tie.Need-union-requires-3
 union-requires-3 c κs = search needs
 
 returns : tie.Need-returns
-returns c = search (holds-all, needs)
+returns c = search (states-are, needs)
 
 pub states-of-spec : {M : Type 1} → statement M
 states-of-spec =

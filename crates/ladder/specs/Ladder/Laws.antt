@@ -1,18 +1,18 @@
 -- Laws for the functions of the ladder. Assumes nothing.
-use mathlib.Core.Path.{_≡_, refl, sym, ap, _∙_}
-use mathlib.Core.Bool.{Bool, true, false, not, _&&_}
+use mathlib.Core.Path.{_≡_, refl, sym, ap, _∙_, fun-ext}
+use mathlib.Core.Bool.{Bool, true, false, not, _&&_, _||_}
 use mathlib.Core.List.{List, []}
 use mathlib.Core.Logic.{⊎-elim, by-cases}
 use Prim.Native.Nat.{ℕ, zero, suc, _+_, _-_, _≤_, _<_, min, max}
 use native.Mathlib.Decide.{decLt}
 use native.Mathlib.Numerals.{add-one}
 use native.Mathlib.Omega.{arith}
-use borrow.Author.Tests.{leb-true, leb-false, eqb-true, eqb-false, lt-ltb, le-ltb, le-leb, lt-leb, eq-eqb, ne-eqb, not-true, not-false}
+use borrow.Author.Tests.{leb-true, leb-false, eqb-true, eqb-false, lt-ltb, le-ltb, ltb-false, le-leb, lt-leb, eq-eqb, ne-eqb, not-true, not-false}
 use lib.Dec.{leb, ltb, eqb}
 use lib.ListN.{length}
 use mir.Val.{boolByte}
 use Rattle.theory.specs.Test.{member, imp, bit}
-use Rattle.theory.specs.Test.Laws.{by-test, not-both, is-false, and-elim, and-fails, or-fails, imp-intro}
+use Rattle.theory.specs.Test.Laws.{by-test, not-both, is-false, and-elim, and-fails, imp-intro}
 use Rattle.theory.specs.Below.{allBelow, anyBelow, firstBelow, sumBelow, least, greatest}
 use Rattle.theory.specs.Below.Laws.{all-elim, all-intro, any-elim, any-intro}
 use Rattle.theory.specs.Below.Scan.{Clear}
@@ -25,7 +25,7 @@ use Rattle.format.specs.declared.Sizes.{Sizes}
 use Rattle.format.specs.declared.Rule.{Rule}
 use Rattle.shape.specs.Sound.{Limits, SoundParts}
 use Rattle.ladder.specs.declared.PreSequence.{PreSequence}
-use Rattle.ladder.specs.Ladder.{ladderOf, fitting, uncovered, inPair, beyondOf, preSequenceOf, heldOf, coversOf, fitsIn, Holds, SoundPair, SoundPairs}
+use Rattle.ladder.specs.Ladder.{ladderOf, fitting, uncovered, inPair, beyondOf, preSequenceOf, heldOf, coversOf, fitsIn, statesIn, SoundPair, SoundPairs}
 
 -- ---- The ladder of the sections is that of the whole protocol
 
@@ -167,32 +167,40 @@ module _ (n : ℕ) (H J : ℕ → ℕ) (same : (x : ℕ) → x < n → H x ≡ J
           (λ d. le-leb (inPair p q x) (J x) (omega (arith, bit-other p x e, bit-other q x d))))
 
 -- The set of the states of j, from its four states.
-pub holds-all : (j : PreSequence) (a b c d e f w : ℕ) → member a ≡ singleOf (j .first) → member b ≡ singleOf (j .second) → member c ≡ unionOf a b
-    → member d ≡ singleOf (j .third) → member e ≡ singleOf (j .fourth) → member f ≡ unionOf d e → member w ≡ unionOf c f → Holds j w
-holds-all j a b c d e f w ea eb ec ed ee ef ew = record {
-  none = λ x l t.
-      let halves = or-fails (member c x) (member f x) (sym (at ew x) ∙ t) in
-      let before = or-fails (member a x) (member b x) (sym (at ec x) ∙ halves .0) in
-      let left = or-fails (member d x) (member e x) (sym (at ef x) ∙ halves .1) in
-      omega (arith, none-at x l (j .first) (sym (at ea x) ∙ before .0), none-at x l (j .second) (sym (at eb x) ∙ before .1), none-at x l (j .third) (sym (at ed x) ∙ left .0), none-at x l (j .fourth) (sym (at ee x) ∙ left .1));
-}
-  where
-    at : {g h : ℕ → Bool} → g ≡ h → (x : ℕ) → g x ≡ h x
-    at s x = ap (λ (k : ℕ → Bool). k x) s
+one-of : (l a b c d : Bool) → ((l && a) || (l && b)) || ((l && c) || (l && d)) ≡ l && ltb 0 (bit a + bit b + (bit c + bit d))
+one-of false a b c d = refl
+one-of true true b c d = sym (lt-ltb 0 (1 + bit b + (bit c + bit d)) (omega arith))
+one-of true false true c d = sym (lt-ltb 0 (0 + 1 + (bit c + bit d)) (omega arith))
+one-of true false false true d = sym (lt-ltb 0 (0 + 0 + (1 + bit d)) (omega arith))
+one-of true false false false true = refl
+one-of true false false false false = refl
 
-    none-at : (x : ℕ) → x < 64 → (i : ℕ) → singleOf i x ≡ false → bit (eqb i x) ≡ 0
-    none-at x l i t = ap bit (sym (ap (λ (k : Bool). k && eqb i x) (lt-ltb x 64 l)) ∙ t)
+pub states-are : (j : PreSequence) (a b c d e f w : ℕ) → member a ≡ singleOf (j .first) → member b ≡ singleOf (j .second) → member c ≡ unionOf a b
+    → member d ≡ singleOf (j .third) → member e ≡ singleOf (j .fourth) → member f ≡ unionOf d e → member w ≡ unionOf c f → member w ≡ statesIn j
+unfolding statesIn
+states-are j a b c d e f w ea eb ec ed ee ef ew =
+    fun-ext
+    (λ x.
+    ap (λ (k : ℕ → Bool). k x) ew
+    ∙ rw (ec, ef, ea, eb, ed, ee) (one-of (ltb x 64) (eqb (j .first) x) (eqb (j .second) x) (eqb (j .third) x) (eqb (j .fourth) x)))
+
+-- Of a state that is not in the set, j has no agent.
+missing : (j : PreSequence) (w x : ℕ) → member w ≡ statesIn j → x < 64 → member w x ≡ false → heldOf j x ≡ 0
+unfolding statesIn
+missing j w x h l e =
+    let t : ltb 0 (heldOf j x) ≡ false = ap (λ b. b && ltb 0 (heldOf j x)) (sym (lt-ltb x 64 l)) ∙ sym (ap (λ (k : ℕ → Bool). k x) h) ∙ e in
+    omega (arith, ltb-false 0 (heldOf j x) t)
 
 -- A pair with a state of which j has no agent is not covered.
-module _ (j : PreSequence) (w : ℕ) (h : Holds j w) (p q : ℕ) where
+module _ (j : PreSequence) (w : ℕ) (h : member w ≡ statesIn j) (p q : ℕ) where
   first-missing : p < 64 → member w p ≡ false → coversOf j p q p ≡ false
-  first-missing l e = lt-leb (inPair p q p) (heldOf j p) (omega (arith, h .none p l e, bit-same p p refl))
+  first-missing l e = lt-leb (inPair p q p) (heldOf j p) (omega (arith, missing j w p h l e, bit-same p p refl))
 
   second-missing : q < 64 → member w q ≡ false → coversOf j p q q ≡ false
-  second-missing l e = lt-leb (inPair p q q) (heldOf j q) (omega (arith, h .none q l e, bit-same q q refl))
+  second-missing l e = lt-leb (inPair p q q) (heldOf j q) (omega (arith, missing j w q h l e, bit-same q q refl))
 
 -- The branches of rule_fits: x is a state of rule v, w the set of the states of j.
-module _ (rules : List ℕ) (l : ℕ) (j : PreSequence) (v w x : ℕ) (s : SoundPair rules v) (h : Holds j w) (t : Bool) (g : t ≡ member w x) (k : not t ≡ true) where
+module _ (rules : List ℕ) (l : ℕ) (j : PreSequence) (v w x : ℕ) (s : SoundPair rules v) (h : member w ≡ statesIn j) (t : Bool) (g : t ≡ member w x) (k : not t ≡ true) where
   pub fits-first-missing : x ≡ ruleP rules v → false ≡ fitsIn rules l j v
   unfolding fitsIn
   fits-first-missing d = rw (first-missing j w h (ruleP rules v) (ruleQ rules v) (s .p-lt) (ap (member w) (sym d) ∙ sym g ∙ not-true t k), and-false)

@@ -14,7 +14,7 @@ use borrow.Author.Tests.{lt-ltb, le-ltb, ltb-true, ltb-false, leb-true, eqb-true
 use Rattle.theory.specs.Test.{member, imp}
 use Rattle.theory.specs.Test.Laws.{by-test, not-both, is-false, and-elim, imp-intro, imp-elim}
 use Rattle.theory.specs.Below.{allBelow}
-use Rattle.theory.specs.Below.Laws.{all-intro, all-elim}
+use Rattle.theory.specs.Below.Laws.{all-same, all-intro, all-elim}
 use Rattle.theory.specs.Protocol.{Protocol}
 use Rattle.theory.specs.Facts.{Facts, withAbsent, withPresent, withAtMostOne, withUnused}
 use Rattle.theory.specs.Leaf.{leafCloses, nonIncreasing, startFits, endFits, spare, surplus, shortfall}
@@ -66,12 +66,6 @@ settled-when true g h x Fs Gs f e = let s = f refl in e ∙ rw (s .0, s .1)
 settled-when false g h x Fs Gs f e = e
 
 -- ---- Sets in words
-
-all-same : (n : ℕ) (g h : ℕ → Bool) → ((s : ℕ) → s < n → g s ≡ h s) → allBelow n g ≡ allBelow n h
-all-same n g h e =
-    by-test (allBelow n h)
-    (λ t. all-intro n g (λ s m. e s m ∙ all-elim n h t s m) ∙ sym t)
-    (λ t. is-false _ (λ u. not-both (all-intro n h (λ s m. sym (e s m) ∙ all-elim n g u s m)) t) ∙ sym t)
 
 -- The members of u are the states of A.
 pub within-word : (S u a : ℕ) (A f : ℕ → Bool) (t : Bool) → S ≤ 64 → member u ≡ among S A → member a ≡ f → t ≡ subsetOf u a

@@ -1,5 +1,5 @@
 -- Laws of tests, sums, extremes and tables below a bound. Assumes nothing.
-use mathlib.Core.Path.{_≡_, refl, ap, _∙_, subst}
+use mathlib.Core.Path.{_≡_, refl, sym, ap, _∙_, subst}
 use mathlib.Core.Bool.{Bool, true, false, _&&_, _||_, true≢false, false≢true}
 use mathlib.Core.Logic.{⊎-elim, by-cases}
 use Prim.Native.Nat.{ℕ, zero, suc, _+_, _*_, _≤_, _<_, min, max}
@@ -54,6 +54,13 @@ any-intro (suc n) f k l e =
 
 pub any-fails : (n : ℕ) (f : ℕ → Bool) → anyBelow n f ≡ false → (k : ℕ) → k < n → f k ≡ false
 any-fails n f h k l = is-false _ (λ e. not-both (any-intro _ _ k l e) h)
+
+-- Tests that agree below n agree on whether all numbers below n pass.
+pub all-same : (n : ℕ) (f g : ℕ → Bool) → ((k : ℕ) → k < n → f k ≡ g k) → allBelow n f ≡ allBelow n g
+all-same n f g e =
+    by-test (allBelow n g)
+    (λ t. all-intro n f (λ k l. e k l ∙ all-elim n g t k l) ∙ sym t)
+    (λ t. is-false _ (λ u. not-both (all-intro n g (λ k l. sym (e k l) ∙ all-elim n f u k l)) t) ∙ sym t)
 
 and-swap : (a b c : Bool) → a && (b && c) ≡ b && (a && c)
 and-swap true b c = refl

@@ -8,9 +8,8 @@ use native.Mathlib.Omega.{arith}
 use lib.Dec.{ltb, eqb}
 use borrow.Author.Tests.{lt-ltb, le-ltb, ltb-true}
 use Rattle.theory.specs.Test.{member}
-use Rattle.theory.specs.Test.Laws.{by-test, not-both, is-false}
-use Rattle.theory.specs.Below.{allBelow}
-use Rattle.theory.specs.Below.Laws.{all-intro, all-elim}
+use Rattle.theory.specs.Test.Laws.{by-test}
+use Rattle.theory.specs.Below.Laws.{all-same}
 use Rattle.theory.specs.Protocol.{Protocol}
 use Rattle.theory.specs.Facts.{Facts, fresh}
 use Rattle.theory.specs.Leaf.{leafCloses, nonIncreasing, startFits, endFits, spare, surplus, shortfall}
@@ -159,12 +158,6 @@ with-states z rules o i w =
       output = o;
       input = i;
     }
-
-all-same : (n : ℕ) (f g : ℕ → Bool) → ((s : ℕ) → s < n → f s ≡ g s) → allBelow n f ≡ allBelow n g
-all-same n f g e =
-    by-test (allBelow n g)
-    (λ t. all-intro n f (λ s m. e s m ∙ all-elim n g t s m) ∙ sym t)
-    (λ t. is-false _ (λ u. not-both (all-intro n g (λ s m. sym (e s m) ∙ all-elim n f u s m)) t) ∙ sym t)
 
 -- Where the outputs of the states are the same, the walk is the same.
 module _ (z : Sizes) (rules nodes leaves : List ℕ) (o o′ i i′ : ℕ → Bool) (w w′ : ℕ → ℕ → ℕ) (same : (s : ℕ) → s < z .states → o s ≡ o′ s) where

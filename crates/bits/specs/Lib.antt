@@ -1,2 +1,3 @@
--- Definitions stand in Word, their laws in Word.Laws.
-pub mod Word
+-- Code: sets of numbers below 64 as the functions of this crate give them. Code/Laws: what the functions and their
+-- callers need.
+pub mod Code

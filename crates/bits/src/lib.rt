@@ -1,8 +1,9 @@
 // Words of 64 bits as sets of the numbers below 64.
 ghost use mathlib.Core.Path.{_≡_};
 ghost use Prim.Native.Nat.{_<_};
-ghost use Rattle.theory.specs.Test.{member};
-ghost use Rattle.bits.specs.Word.{singleOf, fullOf, unionOf, withIf, withoutOf, subsetOf, disjointOf, sizeOf, lowestOf};
+ghost use Rattle.theory.specs.Bool.{member};
+ghost use Rattle.theory.specs.Tree.{setSize};
+ghost use Rattle.bits.specs.Code.{singleOf, fullOf, unionOf, withIf, withoutOf, subsetOf, disjointOf, lowestOf};
 
 // Whether i is a member.
 pub fn has(w: u64, i: usize) -> bool
@@ -73,7 +74,7 @@ pub fn disjoint(a: u64, b: u64) -> bool
 
 // How many members.
 pub fn size(w: u64) -> u32
-    ensures { λ r. ⌜ r ≡ sizeOf w ⌝ }
+    ensures { λ r. ⌜ r ≡ setSize w ⌝ }
 {
     u64::count_ones(w)
 }

@@ -2,67 +2,64 @@
 use mathlib.Core.Bool.{not}
 use mathlib.Core.List.{List, [], _∷_}
 use Prim.Native.Nat.{ℕ}
-use Rattle.theory.specs.Ladder.{lowersAt, handoverAt, spreads}
-use Rattle.theory.specs.Tree.{Answer, next, refused}
-use Rattle.format.specs.Format.{partsOf, protocolOf}
+use Rattle.theory.specs.Judge.{Test, judge}
+use Rattle.theory.specs.Protocol.{Protocol}
+use Rattle.theory.specs.Ladder.{Layers, lowersAt, handoverAt, spreads}
+use Rattle.theory.specs.Tree.{Walked, next, refused, disagreement, treeAnswer, widest}
+use Rattle.format.specs.Format.{Sections, sectionsOf, layerWeight, protocolOf, layersOf, treeOf, weightsOf}
 use Rattle.format.specs.declared.Sizes.{Sizes}
 use Rattle.format.specs.declared.Header.{Header}
-use Rattle.shape.specs.Judge.{Test, judge}
-use Rattle.shape.specs.Shape.{shapeOf, onShape}
-use Rattle.tree.specs.declared.Walk as walk
-use Rattle.tree.specs.declared.Walk.the-variants as walk-is
+use Rattle.shape.specs.Shape.{refusal, shapeOf, byShape}
 use Rattle.leaf.specs.Leaf.{badLeaf}
-use Rattle.tree.specs.Tree.{treeAnswerOf, widestOf}
-use Rattle.checker.specs.declared.Figures.{Figures}
+use Rattle.checker.specs.declared.Summary.{Summary}
 use Rattle.checker.specs.declared.Checked.{Checked}
 use Rattle.checker.specs.declared.Checked.the-variants.{Accepted, Refused}
 pub mod Laws
 
--- Tests 9 to 11: lowering at each rule, handover at each rule, the weights of each leaf.
-abbrev pub certificateTests : Sizes → List ℕ → List ℕ → List ℕ → List ℕ → List Test
-certificateTests z states rules layers leaves =
-    record { number = 9; places = z .rules; bad = λ r. not (lowersAt (protocolOf z states rules layers) r) }
-    ∷ record { number = 10; places = z .rules; bad = λ s. not (handoverAt (protocolOf z states rules layers) s) }
-    ∷ record { number = 11; places = z .leaves; bad = badLeaf z leaves }
-    ∷ []
+-- The sections x of a docket with sizes z.
+module _ (z : Sizes) (x : Sections) where
+  abbrev P : Protocol
+  P = protocolOf z (x .states) (x .rules)
 
--- What is said of an accepted docket: S, R, L, N, W and M.
-abbrev pub figuresOf : Sizes → List ℕ → List ℕ → List ℕ → List ℕ → Figures
-figuresOf z states rules layers nodes =
-    record {
-      states = z .states;
-      rules = z .rules;
-      layers = z .layers;
-      nodes = z .nodes;
-      spreads = spreads (protocolOf z states rules layers);
-      widest = widestOf z nodes;
-    }
+  abbrev L : Layers
+  L = layersOf z (x .rules)
 
--- Tests 12 and 13: the answer of the walk.
-abbrev pub treeCheck : Figures → Answer → Checked
+  abbrev w : ℕ → ℕ → ℕ
+  w = layerWeight (z .states) (x .layers)
+
+  -- Tests 9 to 11: lowering at each rule, handover at each rule, the weights of each leaf.
+  abbrev pub certificateTests : List Test
+  certificateTests =
+      record { number = 9; places = z .rules; bad = λ r. not (lowersAt P L w r) }
+      ∷ record { number = 10; places = z .rules; bad = λ s. not (handoverAt P L s) }
+      ∷ record { number = 11; places = z .leaves; bad = badLeaf z (x .leaves) }
+      ∷ []
+
+  -- Tests 12 and 13: the walk of the tree, which refutes that two runs from one start end with different outputs.
+  abbrev pub walkOf : Walked
+  walkOf = treeAnswer P (disagreement P (weightsOf z (x .leaves))) (treeOf z (x .nodes))
+
+  -- What is said of an accepted docket: S, R, L, N, W and M.
+  abbrev pub summaryOf : Summary
+  summaryOf =
+      record {
+        states = z .states;
+        rules = z .rules;
+        layers = z .layers;
+        nodes = z .nodes;
+        spreads = spreads P L w;
+        widest = widest (treeOf z (x .nodes));
+      }
+
+-- What the walk comes to, f being what is said of an accepted docket.
+abbrev pub treeCheck : Summary → Walked → Checked
 treeCheck f (next j) = Accepted f
-treeCheck f (refused n i) = Refused n i
+treeCheck f (refused n k) = Refused (refusal n k)
 
--- Tests 9 to 13 of the sections of a docket.
-unfoldable pub partsCheck : Sizes → List ℕ → List ℕ → List ℕ → List ℕ → List ℕ → Checked
-partsCheck z states rules layers nodes leaves =
-    judge Refused
-    (treeCheck (figuresOf z states rules layers nodes) (treeAnswerOf z states rules layers nodes leaves))
-    (certificateTests z states rules layers leaves)
-
--- Tests 9 to 13 of a docket with header h.
-abbrev pub certificateOf : List ℕ → Header → Checked
-certificateOf b h = let x = partsOf b h in partsCheck (h .sizes) (x .states) (x .rules) (x .layers) (x .nodes) (x .leaves)
-
--- The number and place of a refused walk.
-abbrev pub walkNumber : walk.Walk → ℕ
-walkNumber (walk-is.Next j) = 0
-walkNumber (walk-is.Refused n k) = n
-
-abbrev pub walkPlace : walk.Walk → ℕ
-walkPlace (walk-is.Next j) = 0
-walkPlace (walk-is.Refused n k) = k
+-- Tests 9 to 13.
+unfoldable pub sectionsCheck : Sizes → Sections → Checked
+sectionsCheck z x = judge (λ n k. Refused (refusal n k)) (treeCheck (summaryOf z x) (walkOf z x)) (certificateTests z x)
 
 -- The check: tests 1 to 8, then the others.
 unfoldable pub checkOf : List ℕ → Checked
-checkOf b = onShape Refused (certificateOf b) (shapeOf b)
+checkOf b = byShape Refused (λ h. sectionsCheck (h .sizes) (sectionsOf b h)) (shapeOf b)

@@ -1,2 +1,2 @@
--- Definitions stand in specs/X.antt, their laws below them in specs/X/.
+-- Check: the whole check. Its laws stand in Check/Laws.
 pub mod Check

@@ -1,17 +1,20 @@
 // The check of a docket: tests 1 to 13 in order. Any bytes may be given.
 ghost use mathlib.Core.Path.{_≡_};
+ghost use Rattle.format.specs.Format.{sectionsOf};
+ghost use Rattle.format.specs.Code.{sections};
 ghost use Rattle.shape.specs.Sound.{SoundShape};
-ghost use Rattle.ladder.specs.Ladder.{SoundPairs};
-ghost use Rattle.node.specs.Node.{SoundRules};
-ghost use Rattle.tree.specs.Tree.{treeAnswerOf};
-ghost use Rattle.checker.specs.Check.{figuresOf, treeCheck, partsCheck, certificateOf, checkOf, walkNumber, walkPlace};
+ghost use Rattle.ladder.specs.Code.{SoundPairs};
+ghost use Rattle.node.specs.Code.{SoundRules};
+ghost use Rattle.checker.specs.Check.{walkOf, summaryOf, treeCheck, sectionsCheck, checkOf};
 use format::Header;
 use format::Sizes;
+use shape::Refusal;
 use shape::Shape;
 use tree::Walk;
 
-// What is said of an accepted docket: S, R, L, N, the sum of the spreads W, and how many states the widest set of the tree names, M.
-pub struct Figures {
+// What is said of an accepted docket: S, R, L, N, the sum of the spreads W, and how many states the widest set of the tree
+// names, M.
+pub struct Summary {
     pub states: u16,
     pub rules: u16,
     pub layers: u16,
@@ -20,28 +23,10 @@ pub struct Figures {
     pub widest: u32,
 }
 
+// What the check finds.
 pub enum Checked {
-    Accepted(Figures),
-    Refused { number: u32, place: u32 },
-}
-
-// The number and the place of a refused walk.
-fn walk_number(w: Walk) -> u32
-    ensures { λ n. ⌜ n ≡ walkNumber w ⌝ }
-{
-    match w {
-        Walk::Next(_) => 0,
-        Walk::Refused { number, place: _ } => number,
-    }
-}
-
-fn walk_place(w: Walk) -> u32
-    ensures { λ k. ⌜ k ≡ walkPlace w ⌝ }
-{
-    match w {
-        Walk::Next(_) => 0,
-        Walk::Refused { number: _, place } => place,
-    }
+    Accepted(Summary),
+    Refused(Refusal),
 }
 
 // Tests 12 and 13, and what is said of an accepted docket.
@@ -54,17 +39,19 @@ fn tree_check(
     z: Sizes,
 ) -> Checked
     requires { ⌜ SoundRules z (now rules) ⌝ }
-    ensures { λ r. ⌜ r ≡ treeCheck (figuresOf z (now (states .entry)) (now (rules .entry)) (now (layers .entry)) (now (nodes .entry))) (treeAnswerOf z (now (states .entry)) (now (rules .entry)) (now (layers .entry)) (now (nodes .entry)) (now (leaves .entry))) ⌝ }
+    ensures { λ r.
+        let x =
+        sections (now (states .entry)) (now (rules .entry)) (now (layers .entry)) (now (nodes .entry)) (now (leaves .entry)) in
+        ⌜ r ≡ treeCheck (summaryOf z x) (walkOf z x) ⌝ }
 {
     let walk = tree::check_tree(states, rules, nodes, leaves, z);
     let Walk::Next(_) = walk else {
-        let number = walk_number(walk);
-        let place = walk_place(walk);
-        return Checked::Refused { number, place };
+        let refusal = tree::refusal_of(walk);
+        return Checked::Refused(refusal);
     };
     let spreads = ladder::spread_sum(layers, z);
     let widest = tree::widest(nodes, z);
-    Checked::Accepted(Figures {
+    Checked::Accepted(Summary {
         states: z.states,
         rules: z.rules,
         layers: z.layers,
@@ -75,7 +62,7 @@ fn tree_check(
 }
 
 // Tests 9 to 13 of the sections.
-fn parts_check(
+fn sections_check(
     states: &[u8],
     rules: &[u8],
     layers: &[u8],
@@ -85,22 +72,25 @@ fn parts_check(
 ) -> Checked
     requires { ⌜ SoundRules z (now rules) ⌝ }
     requires { ⌜ SoundPairs z (now rules) ⌝ }
-    ensures { λ r. ⌜ r ≡ partsCheck z (now (states .entry)) (now (rules .entry)) (now (layers .entry)) (now (nodes .entry)) (now (leaves .entry)) ⌝ }
+    ensures { λ r.
+        let x =
+        sections (now (states .entry)) (now (rules .entry)) (now (layers .entry)) (now (nodes .entry)) (now (leaves .entry)) in
+        ⌜ r ≡ sectionsCheck z x ⌝ }
 {
-    let r = ladder::lowering_fault(rules, layers, z);
+    let r = ladder::lowering_fault(states, rules, layers, z);
     if r < z.rules {
         let place = r as u32;
-        return Checked::Refused { number: 9, place };
+        return Checked::Refused(Refusal { number: 9, place });
     }
-    let s = ladder::handover_fault(rules, z);
+    let s = ladder::handover_fault(states, rules, z);
     if s < z.rules {
         let place = s as u32;
-        return Checked::Refused { number: 10, place };
+        return Checked::Refused(Refusal { number: 10, place });
     }
     let l = leaf::leaf_fault(leaves, z);
     if l < z.leaves {
         let place = l as u32;
-        return Checked::Refused { number: 11, place };
+        return Checked::Refused(Refusal { number: 11, place });
     }
     tree_check(states, rules, layers, nodes, leaves, z)
 }
@@ -108,14 +98,14 @@ fn parts_check(
 // Tests 9 to 13 of a docket with header h.
 fn certificate(docket: &[u8], h: Header) -> Checked
     requires { ⌜ SoundShape (now docket) h ⌝ }
-    ensures { λ r. ⌜ r ≡ certificateOf (now (docket .entry)) h ⌝ }
+    ensures { λ r. ⌜ r ≡ sectionsCheck (h .sizes) (sectionsOf (now (docket .entry)) h) ⌝ }
 {
-    parts_check(
-        format::states_part(docket, h),
-        format::rules_part(docket, h),
-        format::layers_part(docket, h),
-        format::nodes_part(docket, h),
-        format::leaves_part(docket, h),
+    sections_check(
+        format::states_section(docket, h),
+        format::rules_section(docket, h),
+        format::layers_section(docket, h),
+        format::nodes_section(docket, h),
+        format::leaves_section(docket, h),
         h.sizes,
     )
 }
@@ -126,9 +116,8 @@ pub fn check(docket: &[u8]) -> Checked
 {
     let shape = shape::read_shape(docket);
     let Shape::Sound(h) = shape else {
-        let number = shape::number_of(shape);
-        let place = shape::place_of(shape);
-        return Checked::Refused { number, place };
+        let refusal = shape::refusal_of(shape);
+        return Checked::Refused(refusal);
     };
     certificate(docket, h)
 }

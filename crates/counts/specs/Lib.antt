@@ -1,2 +1,3 @@
--- Definitions stand in specs/X.antt, their laws below them in specs/X/.
-pub mod Counts
+-- Code: what the functions on lent counts answer, beside theory's own definitions. Code/Laws: what the functions and
+-- their callers need.
+pub mod Code

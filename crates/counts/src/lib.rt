@@ -1,20 +1,17 @@
-// The counts of a configuration, one 32-bit number a state, lent as a slice; and sets of states as words.
+// The counts of a configuration, one 32-bit number a state, lent as a slice: tests 20 and 21, occupied states, rules that
+// are enabled, fire, or are chosen. The states section is lent where a contract speaks of the docket's protocol; it is
+// not read.
 ghost use mathlib.Core.Path.{_≡_};
-ghost use Prim.Native.Nat.{_≤_, _<_};
+ghost use Prim.Native.Nat.{_≤_};
 ghost use lib.ListN.{getD};
-ghost use Rattle.theory.specs.Test.{member};
+ghost use Rattle.theory.specs.Bool.{member};
 ghost use Rattle.theory.specs.Below.{sumBelow};
 ghost use Rattle.theory.specs.Protocol.{size, lose as loseOf, gain as gainOf, enabled as enabledOf, fire as fireOf};
 ghost use Rattle.theory.specs.Machine.{chosen};
-ghost use Rattle.format.specs.Format.{tableOf};
-ghost use Rattle.counts.specs.Counts.{countsFault, pairEnabled, statesThat, hasFlag, isOccupied};
+ghost use Rattle.bits.specs.Code.{amongOf};
+ghost use Rattle.format.specs.Format.{protocolOf, layersOf};
+ghost use Rattle.counts.specs.Code.{countsFault, pairEnabled, isOccupied, Most};
 use format::Sizes;
-
-// A bit of a state's byte.
-pub enum Flag {
-    Output,
-    Input,
-}
 
 // The count of state s, 0 past the end.
 pub fn count(counts: &[u32], s: usize) -> u32
@@ -42,7 +39,7 @@ fn total(counts: &[u32], n: u16) -> u64
 
 // Refusals 20 and 21: the number, or 0 for counts that pass both.
 pub fn counts_fault(counts: &[u32], z: Sizes) -> u32
-    ensures { λ r. ⌜ r ≡ countsFault z (now (counts .entry)) ⌝ }
+    ensures { λ r. ⌜ r ≡ countsFault (z .states) (now (counts .entry)) ⌝ }
 {
     let unlike = counts.len() != (z.states as usize);
     if unlike {
@@ -74,8 +71,8 @@ fn pair_enabled(counts: &[u32], p: usize, q: usize) -> bool
 }
 
 // Whether rule r is enabled.
-pub fn enabled(rules: &[u8], z: Sizes, counts: &[u32], r: u16) -> bool
-    ensures { λ t. ⌜ t ≡ enabledOf (tableOf z (now (rules .entry))) (now (counts .entry)) r ⌝ }
+pub fn enabled(states: &[u8], rules: &[u8], z: Sizes, counts: &[u32], r: u16) -> bool
+    ensures { λ t. ⌜ t ≡ enabledOf (protocolOf z (now (states .entry)) (now (rules .entry))) (now (counts .entry)) r ⌝ }
 {
     let t = format::read_rule(rules, r);
     pair_enabled(counts, t.p, t.q)
@@ -94,7 +91,7 @@ fn lose(counts: &mut [u32], s: usize)
 
 // One agent of state s more.
 fn gain(counts: &mut [u32], s: usize)
-    requires { ⌜ getD (now counts) s 0 < 4294967295 ⌝ }
+    requires { ⌜ Most 1000001 (now counts) ⌝ }
     ensures { λ _. ⌜ now (counts .exit) ≡ gainOf (now (counts .entry)) s ⌝ }
 {
     if s < counts.len() {
@@ -102,24 +99,37 @@ fn gain(counts: &mut [u32], s: usize)
     }
 }
 
-// Rule r fires.
-pub fn fire(rules: &[u8], z: Sizes, counts: &mut [u32], r: u16)
-    requires { ⌜ size (now counts) ≤ 1000000 ⌝ }
-    ensures { λ _. ⌜ now (counts .exit) ≡ fireOf (tableOf z (now (rules .entry))) (now (counts .entry)) r ⌝ }
+// One agent of p and one of q less.
+fn take(counts: &mut [u32], p: usize, q: usize)
+    ensures { λ _. ⌜ now (counts .exit) ≡ loseOf (loseOf (now (counts .entry)) p) q ⌝ }
 {
-    let p = format::rule_p(rules, r);
-    let q = format::rule_q(rules, r);
-    let p2 = format::rule_p_after(rules, r);
-    let q2 = format::rule_q_after(rules, r);
     lose(counts, p);
     lose(counts, q);
-    gain(counts, p2);
-    gain(counts, q2);
 }
 
-// The rule that a run uses: the lowest enabled rule of the lowest layer that has one; the number of rules where none is enabled.
-pub fn choose(rules: &[u8], z: Sizes, counts: &[u32]) -> u16
-    ensures { λ r. ⌜ r ≡ chosen (tableOf z (now (rules .entry))) (now (counts .entry)) ⌝ }
+// One agent of p and one of q more.
+fn put(counts: &mut [u32], p: usize, q: usize)
+    requires { ⌜ Most 1000000 (now counts) ⌝ }
+    ensures { λ _. ⌜ now (counts .exit) ≡ gainOf (gainOf (now (counts .entry)) p) q ⌝ }
+{
+    gain(counts, p);
+    gain(counts, q);
+}
+
+// Rule r fires.
+pub fn fire(states: &[u8], rules: &[u8], z: Sizes, counts: &mut [u32], r: u16)
+    requires { ⌜ size (now counts) ≤ 1000000 ⌝ }
+    ensures { λ _. ⌜ now (counts .exit) ≡ fireOf (protocolOf z (now (states .entry)) (now (rules .entry))) (now (counts .entry)) r ⌝ }
+{
+    let t = format::read_rule(rules, r);
+    take(counts, t.p, t.q);
+    put(counts, t.p2, t.q2);
+}
+
+// The rule that a run uses: the lowest enabled rule of the lowest layer that has one; the number of rules where none is
+// enabled.
+pub fn choose(states: &[u8], rules: &[u8], z: Sizes, counts: &[u32]) -> u16
+    ensures { λ r. ⌜ r ≡ chosen (protocolOf z (now (states .entry)) (now (rules .entry))) (layersOf z (now (rules .entry))) (now (counts .entry)) ⌝ }
 {
     let mut best = z.rules;
     let mut low = (z.layers as usize) + 1;
@@ -141,39 +151,16 @@ pub fn choose(rules: &[u8], z: Sizes, counts: &[u32]) -> u16
     best
 }
 
-// Whether state s has the flag.
-fn has_flag(states: &[u8], f: Flag, s: u16) -> bool
-    ensures { λ t. ⌜ t ≡ hasFlag (now (states .entry)) f s ⌝ }
-{
-    let bits = format::state_flags(states, s);
-    match f {
-        Flag::Output => bits % 2 == 1,
-        Flag::Input => bits / 2 % 2 == 1,
-    }
-}
-
+// Whether state s holds an agent.
 fn is_occupied(counts: &[u32], s: u16) -> bool
     ensures { λ t. ⌜ t ≡ isOccupied (now (counts .entry)) s ⌝ }
 {
     0 < count(counts, s as usize)
 }
 
-// The states below n that have the flag, as a word.
-pub fn flag_set(states: &[u8], n: u16, f: Flag) -> u64
-    ensures { λ w. ⌜ member w ≡ statesThat (hasFlag (now (states .entry)) f) n ⌝ }
-{
-    let mut set: u64 = 0;
-    let mut i: u16 = 0;
-    while i < n {
-        set = bits::with_if(set, has_flag(states, f, i), i as usize);
-        i += 1;
-    }
-    set
-}
-
 // The states below n that hold an agent, as a word.
 pub fn occupied(counts: &[u32], n: u16) -> u64
-    ensures { λ w. ⌜ member w ≡ statesThat (isOccupied (now (counts .entry))) n ⌝ }
+    ensures { λ w. ⌜ member w ≡ amongOf n (isOccupied (now (counts .entry))) ⌝ }
 {
     let mut set: u64 = 0;
     let mut i: u16 = 0;

@@ -1,5 +1,7 @@
-// Reads a docket from standard input to its end and prints one line: accepted with S R L N W M, or refused with number and place.
-// A docket has at most 65,535 bytes, so a buffer that is full holds no docket: its length is unlike any header's, which is 1, 0.
+// Reads a docket from standard input to its end and prints one line: accepted with S R L N W M, or refused with number and
+// place.
+// A docket has at most 65,535 bytes, so a buffer that is full holds no docket: its length is unlike any header's, which is
+// 1, 0.
 use checker::Checked;
 use libc::STDIN_FILENO;
 use libc::STDOUT_FILENO;
@@ -23,11 +25,11 @@ fn main() {
             io::write_all(STDOUT_FILENO, b" ");
             io::print_decimal(STDOUT_FILENO, f.widest as u64);
         }
-        Checked::Refused { number, place } => {
+        Checked::Refused(r) => {
             io::write_all(STDOUT_FILENO, b"refused ");
-            io::print_decimal(STDOUT_FILENO, number as u64);
+            io::print_decimal(STDOUT_FILENO, r.number as u64);
             io::write_all(STDOUT_FILENO, b" ");
-            io::print_decimal(STDOUT_FILENO, place as u64);
+            io::print_decimal(STDOUT_FILENO, r.place as u64);
         }
     }
     io::write_all(STDOUT_FILENO, b"\n");

@@ -1,2 +1,2 @@
--- Definitions stand in Facts, their laws in Facts.Laws.
-pub mod Facts
+-- Code: what the words of the struct Facts stand for. Code/Laws: what the methods and their callers need.
+pub mod Code

@@ -1,12 +1,14 @@
-// The facts that a tree of arguments gathers, as sets in words of 64 bits. Every function is total: a party or a rule outside its limits has no facts, and none can be marked there.
+// The facts that a tree of arguments gathers, as sets in words of 64 bits. Every function is total: a party or a rule
+// outside its limits has no facts, and none can be marked there.
 ghost use mathlib.Core.Path.{_≡_};
 ghost use mathlib.Core.Bool.{_&&_};
 ghost use lib.Dec.{ltb};
-ghost use Rattle.theory.specs.Test.{member};
+ghost use Rattle.theory.specs.Bool.{member};
 ghost use Rattle.theory.specs.Facts.{withAbsent, withPresent, withAtMostOne, withUnused};
-ghost use Rattle.facts.specs.Facts.{factsOf, freshOf, onlyIf, inWord, fromWord};
+ghost use Rattle.facts.specs.Code.{factsOf, freshOf, onlyIf, inWord, fromWord};
 
-// Party 0 is the start, 1 and 2 are the runs with their ends: a word a party for its states, four words a party for its rules.
+// Party 0 is the start, 1 and 2 are the runs with their ends: a word a party for its states, four words a party for its
+// rules.
 pub struct Facts {
     absent: [u64; 3],
     present: [u64; 3],
@@ -14,6 +16,7 @@ pub struct Facts {
     unused: [u64; 12],
 }
 
+// Document 01 has the limits of depth and counts here, as constants of the type.
 impl Facts {
     // The greatest depth of a tree.
     pub const DEPTH: u16 = 40;
@@ -73,7 +76,8 @@ impl Facts {
         self
     }
 
-    // The rules of the set are unused in the run. The set is of the 64 rules from 64 word on: member i is rule 64 word + i.
+    // The rules of the set are unused in the run. The set is of the 64 rules from 64 word on: member i is rule 64 word +
+    // i.
     pub fn mark_unused(mut self, run: usize, word: usize, set: u64) -> Facts
         ensures { λ r. ⌜ factsOf r ≡ withUnused (factsOf self) run (onlyIf (ltb run 3 && ltb word 4) (fromWord word (member set))) ⌝ }
     {

@@ -1,7 +1,6 @@
 -- Little-endian numbers in a list of bytes. Past the end of the list a byte reads as 0.
-use mathlib.Core.Path.{_≡_}
 use mathlib.Core.List.{List}
-use Prim.Native.Nat.{ℕ, _+_, _*_, _<_}
+use Prim.Native.Nat.{ℕ, _+_, _*_}
 use lib.ListN.{getD, take, drop}
 pub mod Laws
 
@@ -16,10 +15,5 @@ unfoldable pub le64 : List ℕ → ℕ → ℕ
 le64 b k = le32 b k + 4294967296 * le32 b (k + 4)
 
 -- The n bytes from byte k on.
-abbrev pub part : List ℕ → ℕ → ℕ → List ℕ
-part b k n = take n (drop k b)
-
--- What reading a number gives: the number v, below the bound m.
-pub record Value (m v r : ℕ) : Type 0 where
-  pub is : r ≡ v
-  pub small : r < m
+abbrev pub section : List ℕ → ℕ → ℕ → List ℕ
+section b k n = take n (drop k b)

@@ -1,3 +1,6 @@
--- Definitions stand in specs/X.antt, their laws below them in specs/X/.
+-- Bytes: numbers in a list of bytes. Format: the docket file, and what its sections stand for. Samples: two dockets.
+-- Code: what serves the functions of this crate. Laws stand in Bytes/Laws.
 pub mod Bytes
 pub mod Format
+pub mod Samples
+pub mod Code

@@ -1,12 +1,19 @@
-// The docket file: its header, its sections, and one reader for each field of each record. Every function is total: past the end of a slice a byte reads as 0.
+// The docket file: its header, its sections, and one reader for each field of each record.
+// Every function is total: past the end of a slice a byte reads as 0. Everywhere h is a header and z its sizes.
 ghost use mathlib.Core.Path.{_≡_};
-ghost use Prim.Native.Nat.{_+_, _*_};
+ghost use Prim.Native.Nat.{_+_, _*_, min, max};
 ghost use lib.ListN.{getD};
-ghost use Rattle.format.specs.Bytes.{le16, le32, le64, part, Value};
-ghost use Rattle.format.specs.Format.{headerOf, statesLength, rulesLength, layersLength, nodesLength, leavesLength, flags, ruleP, ruleQ, ruleOf, ruleP′, ruleQ′, ruleLayer, layerWeight, nodeKind, nodeParty, nodeArgument, nodeSet, leafBits, biased};
+ghost use Rattle.theory.specs.Bool.{member};
+ghost use Rattle.bits.specs.Code.{amongOf};
+ghost use Rattle.format.specs.Bytes.{le16, le32, le64, section as sectionOf};
+ghost use Rattle.format.specs.Format.{headerOf, statesLength, rulesLength, layersLength, nodesLength, leavesLength, flags};
+ghost use Rattle.format.specs.Format.{ruleP, ruleQ, ruleOf, ruleP′, ruleQ′, ruleLayer, layerWeight};
+ghost use Rattle.format.specs.Format.{nodeKind, nodeParty, nodeArgument, nodeSet, leafBits, biased};
+ghost use Rattle.format.specs.Code.{Value, hasFlag};
 
-// How many records each section has.
+// The version, and how many records each section has.
 pub struct Sizes {
+    pub version: u16,
     pub states: u16,
     pub rules: u16,
     pub layers: u16,
@@ -25,7 +32,6 @@ pub struct Offsets {
 }
 
 pub struct Header {
-    pub version: u16,
     pub sizes: Sizes,
     pub at: Offsets,
 }
@@ -37,6 +43,12 @@ pub struct Rule {
     pub p2: usize,
     pub q2: usize,
     pub layer: usize,
+}
+
+// A bit of a state's byte.
+pub enum Flag {
+    Output,
+    Input,
 }
 
 fn wide(x: u8) -> usize
@@ -55,6 +67,7 @@ pub fn byte(b: &[u8], k: usize) -> usize
     0
 }
 
+// The 16-bit number at k.
 pub fn read16(b: &[u8], k: usize) -> u16
     ensures { λ r. ⌜ r ≡ le16 (now (b .entry)) k ⌝ }
 {
@@ -97,6 +110,7 @@ pub fn read32(b: &[u8], k: usize) -> u32
     (low + 65536 * high) as u32
 }
 
+// The 64-bit number at k.
 pub fn read64(b: &[u8], k: usize) -> u64
     ensures { λ r. ⌜ r ≡ le64 (now (b .entry)) k ⌝ }
 {
@@ -110,7 +124,7 @@ pub fn read64(b: &[u8], k: usize) -> u64
 
 // The n bytes from byte k on, or as many as there are.
 pub fn section(b: &[u8], k: usize, n: usize) -> &[u8]
-    ensures { λ r. ⌜ now r ≡ part (now (b .entry)) k n ⌝ }
+    ensures { λ r. ⌜ now r ≡ sectionOf (now (b .entry)) k n ⌝ }
 {
     let len = b.len();
     if len <= k {
@@ -124,16 +138,32 @@ pub fn section(b: &[u8], k: usize, n: usize) -> &[u8]
     &b[k..end]
 }
 
+// A product that cannot wrap.
 pub fn product(a: u16, b: u16) -> usize
     ensures { λ r. ⌜ Value 4294967296 (a * b) r ⌝ }
 {
     (a as usize) * (b as usize)
 }
 
+// The lesser and the greater of two numbers.
+pub fn lesser(a: u32, b: u32) -> u32
+    ensures { λ c. ⌜ c ≡ min a b ⌝ }
+{
+    if a < b { a } else { b }
+}
+
+pub fn greater(a: u32, b: u32) -> u32
+    ensures { λ c. ⌜ c ≡ max a b ⌝ }
+{
+    if a < b { b } else { a }
+}
+
+// The header of the bytes b.
 pub fn read_header(b: &[u8]) -> Header
     ensures { λ r. ⌜ r ≡ headerOf (now (b .entry)) ⌝ }
 {
     let sizes = Sizes {
+        version: read16(b, 0),
         states: read16(b, 2),
         rules: read16(b, 4),
         layers: read16(b, 6),
@@ -148,27 +178,24 @@ pub fn read_header(b: &[u8]) -> Header
         leaves: read16(b, 20),
         total: read16(b, 22),
     };
-    Header {
-        version: read16(b, 0),
-        sizes,
-        at,
-    }
+    Header { sizes, at }
 }
 
-pub fn states_part(b: &[u8], h: Header) -> &[u8]
-    ensures { λ r. ⌜ now r ≡ part (now (b .entry)) (h .at .states) (statesLength (h .sizes)) ⌝ }
+// The bytes of each section.
+pub fn states_section(b: &[u8], h: Header) -> &[u8]
+    ensures { λ r. ⌜ now r ≡ sectionOf (now (b .entry)) (h .at .states) (statesLength (h .sizes)) ⌝ }
 {
     section(b, h.at.states as usize, h.sizes.states as usize)
 }
 
-pub fn rules_part(b: &[u8], h: Header) -> &[u8]
-    ensures { λ r. ⌜ now r ≡ part (now (b .entry)) (h .at .rules) (rulesLength (h .sizes)) ⌝ }
+pub fn rules_section(b: &[u8], h: Header) -> &[u8]
+    ensures { λ r. ⌜ now r ≡ sectionOf (now (b .entry)) (h .at .rules) (rulesLength (h .sizes)) ⌝ }
 {
     section(b, h.at.rules as usize, 5 * (h.sizes.rules as usize))
 }
 
-pub fn layers_part(b: &[u8], h: Header) -> &[u8]
-    ensures { λ r. ⌜ now r ≡ part (now (b .entry)) (h .at .layers) (layersLength (h .sizes)) ⌝ }
+pub fn layers_section(b: &[u8], h: Header) -> &[u8]
+    ensures { λ r. ⌜ now r ≡ sectionOf (now (b .entry)) (h .at .layers) (layersLength (h .sizes)) ⌝ }
 {
     section(
         b,
@@ -177,14 +204,14 @@ pub fn layers_part(b: &[u8], h: Header) -> &[u8]
     )
 }
 
-pub fn nodes_part(b: &[u8], h: Header) -> &[u8]
-    ensures { λ r. ⌜ now r ≡ part (now (b .entry)) (h .at .nodes) (nodesLength (h .sizes)) ⌝ }
+pub fn nodes_section(b: &[u8], h: Header) -> &[u8]
+    ensures { λ r. ⌜ now r ≡ sectionOf (now (b .entry)) (h .at .nodes) (nodesLength (h .sizes)) ⌝ }
 {
     section(b, h.at.nodes as usize, 12 * (h.sizes.nodes as usize))
 }
 
-pub fn leaves_part(b: &[u8], h: Header) -> &[u8]
-    ensures { λ r. ⌜ now r ≡ part (now (b .entry)) (h .at .leaves) (leavesLength (h .sizes)) ⌝ }
+pub fn leaves_section(b: &[u8], h: Header) -> &[u8]
+    ensures { λ r. ⌜ now r ≡ sectionOf (now (b .entry)) (h .at .leaves) (leavesLength (h .sizes)) ⌝ }
 {
     section(
         b,
@@ -193,10 +220,35 @@ pub fn leaves_part(b: &[u8], h: Header) -> &[u8]
     )
 }
 
-pub fn state_flags(states: &[u8], s: u16) -> usize
-    ensures { λ x. ⌜ Value 256 (flags (now (states .entry)) s) x ⌝ }
+// State s: its byte.
+pub fn state_flags(states: &[u8], z: Sizes, s: u16) -> usize
+    ensures { λ x. ⌜ Value 256 (flags z (now (states .entry)) s) x ⌝ }
 {
     byte(states, s as usize)
+}
+
+// Whether state s has the flag.
+fn has_flag(states: &[u8], z: Sizes, f: Flag, s: u16) -> bool
+    ensures { λ t. ⌜ t ≡ hasFlag z (now (states .entry)) f s ⌝ }
+{
+    let bits = state_flags(states, z, s);
+    match f {
+        Flag::Output => bits % 2 == 1,
+        Flag::Input => bits / 2 % 2 == 1,
+    }
+}
+
+// The states that have the flag, as a word.
+pub fn flag_set(states: &[u8], z: Sizes, f: Flag) -> u64
+    ensures { λ w. ⌜ member w ≡ amongOf (z .states) (hasFlag z (now (states .entry)) f) ⌝ }
+{
+    let mut set: u64 = 0;
+    let mut i: u16 = 0;
+    while i < z.states {
+        set = bits::with_if(set, has_flag(states, z, f, i), i as usize);
+        i += 1;
+    }
+    set
 }
 
 // Rule r, all of it.
@@ -222,6 +274,7 @@ pub fn read_rule(rules: &[u8], r: u16) -> Rule
     }
 }
 
+// Rule r by its fields: the before pair p, q.
 pub fn rule_p(rules: &[u8], r: u16) -> usize
     ensures { λ x. ⌜ Value 256 (ruleP (now (rules .entry)) r) x ⌝ }
 {
@@ -234,7 +287,7 @@ pub fn rule_q(rules: &[u8], r: u16) -> usize
     byte(rules, 5 * (r as usize) + 1)
 }
 
-// p′ and q′, the after pair.
+// The after pair p′, q′.
 pub fn rule_p_after(rules: &[u8], r: u16) -> usize
     ensures { λ x. ⌜ Value 256 (ruleP′ (now (rules .entry)) r) x ⌝ }
 {
@@ -260,6 +313,7 @@ pub fn layer_weight(layers: &[u8], n: u16, l: u16, s: u16) -> u32
     read32(layers, 4 * (product(l, n) + (s as usize)))
 }
 
+// Node i: its kind, party, argument and set.
 pub fn node_kind(nodes: &[u8], i: u16) -> usize
     ensures { λ x. ⌜ Value 256 (nodeKind (now (nodes .entry)) i) x ⌝ }
 {

@@ -1,4 +1,3 @@
--- Definitions stand in specs/X.antt, their laws below them in specs/X/.
-pub mod Ladder
-pub mod Exact
+-- Code: what serves the functions of this crate, with its laws; the tests themselves are theory's. Samples: computed cases.
+pub mod Code
 pub mod Samples

@@ -4,20 +4,22 @@ use mathlib.Core.Bool.{not}
 use mathlib.Core.List.{List, [], _∷_}
 use Prim.Native.Nat.{ℕ}
 use lib.ListN.{set}
-use Rattle.theory.specs.Below.{allBelow, anyBelow, firstBelow, sumBelow, least, greatest}
-use Rattle.theory.specs.Ladder.{lowersAt, isLower, fits, handoverAt, leastWeight, spread, spreads}
-use Rattle.format.specs.Bytes.{le16, le32}
-use Rattle.format.specs.Format.{headerOf, partsOf}
-use Rattle.shape.specs.Samples.{broadcast, majority}
-use Rattle.ladder.specs.Ladder.{ladderOf}
+use Rattle.theory.specs.Below.{firstBelow}
+use Rattle.theory.specs.Ladder.{lowersAt, handoverAt, spreads}
+use Rattle.format.specs.Format.{headerOf, protocolIn, layersIn, weightIn}
+use Rattle.theory.specs.Unfold.{laddering}
+use Rattle.format.specs.Samples.{reading, broadcast, majority}
 
 -- The values of lowering_fault, handover_fault and spread_sum on the sections of a docket.
 abbrev values : List ℕ → ℕ × ℕ × ℕ
 values b =
     let h = headerOf b in
-    let x = partsOf b h in
-    let P = ladderOf (h .sizes) (x .rules) (x .layers) in
-    (firstBelow (h .sizes .rules) (λ r. not (lowersAt P r)), firstBelow (h .sizes .rules) (λ s. not (handoverAt P s)), spreads P)
+    let P = protocolIn b h in
+    let L = layersIn b h in (
+      firstBelow (P .rules) (λ r. not (lowersAt P L (weightIn b h) r)),
+      firstBelow (P .rules) (λ s. not (handoverAt P L s)),
+      spreads P L (weightIn b h),
+    )
 
 -- The majority docket with layers and weights exchanged.
 abbrev exchanged : List ℕ
@@ -45,5 +47,5 @@ expected [] = []
 expected (c ∷ cs) = c .1 ∷ expected cs
 
 samples-right : answers samples ≡ expected samples
-unfolding lowersAt isLower fits handoverAt leastWeight spread spreads allBelow anyBelow firstBelow sumBelow least greatest le16 le32
+unfolding laddering reading
 samples-right = refl

@@ -1,14 +1,15 @@
-// The ladder of a docket: lowering (test 9), handover (test 10) and the sum of the spreads. Handover wants the rules of a sound shape; the others take any bytes and any sizes.
+// The ladder of a docket: lowering (test 9), handover (test 10) and the sum of the spreads.
+// Handover wants the rules of a sound shape; the others take any bytes and any sizes.
+// The states are lent because the contracts speak of the docket's protocol; the tests do not read them.
 ghost use mathlib.Core.Path.{_≡_};
 ghost use mathlib.Core.Bool.{not};
-ghost use mathlib.Core.List.{[]};
-ghost use Prim.Native.Nat.{_+_, min, max};
-ghost use Rattle.theory.specs.Below.{firstBelow};
-ghost use Rattle.theory.specs.Ladder.{lowersAt, handoverAt, spread, spreads};
-ghost use Rattle.format.specs.Bytes.{Value};
-ghost use Rattle.format.specs.Format.{layerWeight};
-ghost use Rattle.theory.specs.Test.{member};
-ghost use Rattle.ladder.specs.Ladder.{ladderOf, inPair, beyondOf, preSequenceOf, coversOf, statesIn, SoundPair, SoundPairs, fitsIn};
+ghost use Prim.Native.Nat.{_+_};
+ghost use Rattle.theory.specs.Below.{firstBelow, sumBelow};
+ghost use Rattle.theory.specs.Ladder.{lowersAt, handoverAt, spread};
+ghost use Rattle.format.specs.Code.{Value};
+ghost use Rattle.format.specs.Format.{layerWeight, protocolOf, layersOf};
+ghost use Rattle.theory.specs.Bool.{member};
+ghost use Rattle.ladder.specs.Code.{inPair, beyondOf, preSequenceOf, coversOf, statesIn, SoundPair, SoundPairs, fitsIn};
 use format::Rule;
 use format::Sizes;
 
@@ -30,8 +31,10 @@ fn pair_weight(layers: &[u8], n: u16, l: u16, p: u16, q: u16) -> u64
 }
 
 // Whether rule r does not lower the weight of its layer.
-fn lowering_fails(rules: &[u8], layers: &[u8], z: Sizes, r: u16) -> bool
-    ensures { λ t. ⌜ t ≡ not (lowersAt (ladderOf z (now (rules .entry)) (now (layers .entry))) r) ⌝ }
+fn lowering_fails(states: &[u8], rules: &[u8], layers: &[u8], z: Sizes, r: u16) -> bool
+    ensures { λ t.
+        let P = protocolOf z (now (states .entry)) (now (rules .entry)) in
+        ⌜ t ≡ not (lowersAt P (layersOf z (now (rules .entry))) (layerWeight (z .states) (now (layers .entry))) r) ⌝ }
 {
     let l = format::rule_layer(rules, r) as u16;
     let p = format::rule_p(rules, r) as u16;
@@ -44,12 +47,15 @@ fn lowering_fails(rules: &[u8], layers: &[u8], z: Sizes, r: u16) -> bool
 }
 
 // Test 9: the lowest rule at which lowering fails, or the number of rules.
-pub fn lowering_fault(rules: &[u8], layers: &[u8], z: Sizes) -> u16
-    ensures { λ i. ⌜ i ≡ firstBelow (z .rules) (λ r. not (lowersAt (ladderOf z (now (rules .entry)) (now (layers .entry))) r)) ⌝ }
+pub fn lowering_fault(states: &[u8], rules: &[u8], layers: &[u8], z: Sizes) -> u16
+    ensures { λ i.
+        let P = protocolOf z (now (states .entry)) (now (rules .entry)) in
+        let w = layerWeight (z .states) (now (layers .entry)) in
+        ⌜ i ≡ firstBelow (z .rules) (λ r. not (lowersAt P (layersOf z (now (rules .entry))) w r)) ⌝ }
 {
     let mut r: u16 = 0;
     while r < z.rules {
-        if lowering_fails(rules, layers, z, r) {
+        if lowering_fails(states, rules, layers, z, r) {
             return r;
         }
         r += 1;
@@ -104,7 +110,8 @@ fn states_of(j: PreSequence) -> u64
     bits::union(before, left)
 }
 
-// Whether rule v is of a layer below this one, with its before pair inside j. Most rules have a state outside the set of the states of j, which is quick to see.
+// Whether rule v is of a layer below this one, with its before pair inside j. Most rules have a state outside the set of
+// the states of j, which is quick to see.
 fn rule_fits(rules: &[u8], layer: usize, j: PreSequence, set: u64, v: u16) -> bool
     requires { ⌜ SoundPair (now rules) v ⌝ }
     requires { ⌜ member set ≡ statesIn j ⌝ }
@@ -130,9 +137,11 @@ fn rule_fits(rules: &[u8], layer: usize, j: PreSequence, set: u64, v: u16) -> bo
 }
 
 // Test 10: the lowest rule s at which handover fails, or the number of rules.
-pub fn handover_fault(rules: &[u8], z: Sizes) -> u16
+pub fn handover_fault(states: &[u8], rules: &[u8], z: Sizes) -> u16
     requires { ⌜ SoundPairs z (now rules) ⌝ }
-    ensures { λ i. ⌜ i ≡ firstBelow (z .rules) (λ s. not (handoverAt (ladderOf z (now (rules .entry)) []) s)) ⌝ }
+    ensures { λ i.
+        let P = protocolOf z (now (states .entry)) (now (rules .entry)) in
+        ⌜ i ≡ firstBelow (z .rules) (λ s. not (handoverAt P (layersOf z (now (rules .entry))) s)) ⌝ }
 {
     let n = z.states as usize;
     let mut s: u16 = 0;
@@ -165,29 +174,17 @@ pub fn handover_fault(rules: &[u8], z: Sizes) -> u16
 
 // ---- Spreads
 
-fn lesser(a: u32, b: u32) -> u32
-    ensures { λ c. ⌜ c ≡ min a b ⌝ }
-{
-    if a < b { a } else { b }
-}
-
-fn greater(a: u32, b: u32) -> u32
-    ensures { λ c. ⌜ c ≡ max a b ⌝ }
-{
-    if a < b { b } else { a }
-}
-
 // The greatest weight of layer l less its least.
 fn layer_spread(layers: &[u8], z: Sizes, l: u16) -> u32
-    ensures { λ d. ⌜ d ≡ spread (ladderOf z [] (now (layers .entry))) l ⌝ }
+    ensures { λ d. ⌜ d ≡ spread (z .states) (layerWeight (z .states) (now (layers .entry)) l) ⌝ }
 {
     let mut low = format::layer_weight(layers, z.states, l, 0);
     let mut high = low;
     let mut s: u16 = 0;
     while s < z.states {
         let w = format::layer_weight(layers, z.states, l, s);
-        low = lesser(low, w);
-        high = greater(high, w);
+        low = format::lesser(low, w);
+        high = format::greater(high, w);
         s += 1;
     }
     high - low
@@ -195,7 +192,7 @@ fn layer_spread(layers: &[u8], z: Sizes, l: u16) -> u32
 
 // The sum of the spreads of all layers.
 pub fn spread_sum(layers: &[u8], z: Sizes) -> u64
-    ensures { λ w. ⌜ w ≡ spreads (ladderOf z [] (now (layers .entry))) ⌝ }
+    ensures { λ w. ⌜ w ≡ sumBelow (z .layers) (λ l. spread (z .states) (layerWeight (z .states) (now (layers .entry)) l)) ⌝ }
 {
     let mut sum: u64 = 0;
     let mut l: u16 = 0;

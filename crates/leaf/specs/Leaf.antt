@@ -1,21 +1,12 @@
--- Test 11 and the leaf rule of document 01 over the bytes of a docket, in the parts in which the code goes through them.
-use mathlib.Core.Path.{_≡_}
-use mathlib.Core.Bool.{Bool, not, _&&_, _||_}
+-- Test 11 of document 01 over the bytes of a docket.
+use mathlib.Core.Bool.{Bool}
 use mathlib.Core.List.{List}
-use Prim.Native.Nat.{ℕ, _+_, _-_, _*_, _≤_}
-use lib.Dec.{leb, ltb}
-use Rattle.theory.specs.Test.{member, bit}
+use Prim.Native.Nat.{ℕ}
+use lib.Dec.{ltb}
 use Rattle.theory.specs.Below.{anyBelow}
-use Rattle.theory.specs.Facts.{Facts}
-use Rattle.format.specs.Format.{ruleP, ruleQ, ruleP′, ruleQ′, leafBits, biased}
+use Rattle.format.specs.Format.{endWeight}
 use Rattle.format.specs.declared.Sizes.{Sizes}
-use Rattle.leaf.specs.declared.Known.{Known}
-use Rattle.leaf.specs.declared.Share.{Share}
 pub mod Laws
-
--- Leaf l's weight of state s at end e + 1, plus 10,000.
-abbrev pub endWeight : Sizes → List ℕ → ℕ → ℕ → ℕ → ℕ
-endWeight z leaves l e s = biased (leafBits (z .states) leaves l e s)
 
 -- Leaf l's weight of state s at end e + 1 is outside -10,000 to 10,000.
 abbrev pub overLimit : Sizes → List ℕ → ℕ → ℕ → ℕ → Bool
@@ -24,49 +15,3 @@ overLimit z leaves l e s = ltb 20000 (endWeight z leaves l e s)
 -- Test 11: some weight of leaf l, at one of the two ends, is outside -10,000 to 10,000.
 unfoldable pub badLeaf : Sizes → List ℕ → ℕ → Bool
 badLeaf z leaves l = anyBelow 2 (λ e. anyBelow (z .states) (overLimit z leaves l e))
-
--- ---- The parts of the leaf rule
-
--- The after pair of rule r weighs at end e + 1 at most what the before pair weighs.
-unfoldable pub keeps : Sizes → List ℕ → List ℕ → ℕ → ℕ → ℕ → Bool
-keeps z rules leaves l e r =
-    leb
-    (endWeight z leaves l e (ruleP′ rules r) + endWeight z leaves l e (ruleQ′ rules r))
-    (endWeight z leaves l e (ruleP rules r) + endWeight z leaves l e (ruleQ rules r))
-
--- The words of w are the facts of the states at party k.
-pub record KnownAt (F : Facts) (k : ℕ) (w : Known) : Type 0 where
-  pub absent : member (w .absent) ≡ F .absent k
-  pub present : member (w .present) ≡ (λ s. not (F .absent k s) && F .present k s)
-  pub atMostOne : member (w .«at_most_one») ≡ F .atMostOne k
-
--- The share of state s at the start, y being the sum of its weights, plus 20,000.
-unfoldable pub startShare : Known → ℕ → ℕ → Share
-startShare k s y = record { fits = member (k .absent) s || leb y 20000; plus = bit (member (k .present) s) * (20000 - y); minus = 0 }
-
--- The share of state s at an end, y being its weight there, plus 10,000.
-unfoldable pub endShare : Known → ℕ → ℕ → Share
-endShare k s y =
-    record {
-      fits = member (k .absent) s || (leb 10000 y || member (k .«at_most_one») s);
-      plus = bit (member (k .present) s) * (y - 10000);
-      minus = bit (not (member (k .absent) s)) * (10000 - y);
-    }
-
--- The shares at the start and at the two ends together.
-abbrev pub together : Share → Share → Share → Share
-together a b c = record { fits = a .fits && b .fits && c .fits; plus = b .plus + c .plus + a .plus; minus = b .minus + c .minus }
-
--- The share of state s in leaf l, by what is known at the start, at end 1 and at end 2.
-unfoldable pub shareOf : Sizes → List ℕ → ℕ → Known → Known → Known → ℕ → Share
-shareOf z leaves l a b c s =
-    together
-    (startShare a s (endWeight z leaves l 0 s + endWeight z leaves l 1 s))
-    (endShare b s (endWeight z leaves l 0 s))
-    (endShare c s (endWeight z leaves l 1 s))
-
--- r is the share x, and its numbers are at most m.
-pub record ShareIs (m : ℕ) (x r : Share) : Type 0 where
-  pub is : r ≡ x
-  pub plus : r .plus ≤ m
-  pub minus : r .minus ≤ m

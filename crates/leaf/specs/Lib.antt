@@ -1,3 +1,5 @@
--- Definitions stand in Leaf, their laws in Leaf.Laws.
+-- Leaf: test 11. Code: what the functions of the leaf rule answer. Laws stand below each in Laws.
+-- Samples: computed cases.
 pub mod Leaf
+pub mod Code
 pub mod Samples

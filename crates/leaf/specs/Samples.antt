@@ -5,19 +5,18 @@ use mathlib.Core.List.{List, [], _∷_}
 use Prim.Native.Nat.{ℕ}
 use lib.Dec.{eqb, ltb}
 use lib.ListN.{set}
-use Rattle.theory.specs.Below.{allBelow, anyBelow, sumBelow}
-use Rattle.theory.specs.Facts.{Facts, extend, withAbsent, withPresent}
-use Rattle.theory.specs.Leaf.{nonIncreasing, startFits, spare, endFits, surplus, shortfall, leafCloses}
-use Rattle.format.specs.Bytes.{le16}
-use Rattle.format.specs.Format.{weightsOf}
+use Rattle.theory.specs.Facts.{Facts, withAbsent, withPresent}
+use Rattle.theory.specs.Leaf.{leafCloses}
+use Rattle.theory.specs.Unfold.{closing}
+use Rattle.format.specs.Samples.{reading}
+use Rattle.format.specs.Format.{protocolOf, weightsOf}
 use Rattle.format.specs.declared.Sizes.{Sizes}
-use Rattle.facts.specs.Facts.{freshOf}
+use Rattle.facts.specs.Code.{freshOf}
 use Rattle.leaf.specs.Leaf.{badLeaf}
-use Rattle.format.specs.Format.{tableOf}
 
 -- The majority table of document 01 with one leaf: AB to ab, Ab to Aa, Ba to Bb, ab to bb.
 abbrev pub sizes : Sizes
-sizes = record { states = 4; rules = 4; layers = 2; nodes = 1; leaves = 1 }
+sizes = record { version = 1; states = 4; rules = 4; layers = 2; nodes = 1; leaves = 1 }
 
 abbrev pub rules : List ℕ
 rules = 0 ∷ 1 ∷ 2 ∷ 3 ∷ 0 ∷ 0 ∷ 3 ∷ 0 ∷ 2 ∷ 0 ∷ 1 ∷ 2 ∷ 1 ∷ 3 ∷ 1 ∷ 2 ∷ 3 ∷ 3 ∷ 3 ∷ 1 ∷ []
@@ -31,11 +30,12 @@ abbrev pub without-b : Facts
 without-b = withAbsent (withPresent (freshOf 4 (λ s. ltb s 2)) 1 (eqb 0)) 2 (eqb 0)
 
 abbrev closes : Facts → List ℕ → Bool
-closes F leaves = leafCloses (tableOf sizes rules) F (weightsOf sizes leaves 0)
+closes F leaves = leafCloses (protocolOf sizes (2 ∷ 3 ∷ 0 ∷ 1 ∷ []) rules) F (weightsOf sizes leaves 0)
 
 -- Document 01, P12: the leaf closes with B absent at end 1, and not without. With zeros for weights the sums are equal.
-samples-close : closes (withAbsent without-b 1 (eqb 1)) leaf ∷ closes without-b leaf ∷ closes (withAbsent without-b 1 (eqb 1)) [] ∷ [] ≡ true ∷ false ∷ false ∷ []
-unfolding leafCloses nonIncreasing startFits spare endFits surplus shortfall allBelow sumBelow freshOf withAbsent withPresent extend le16
+samples-close : closes (withAbsent without-b 1 (eqb 1)) leaf ∷ closes without-b leaf ∷ closes (withAbsent without-b 1 (eqb 1)) [] ∷ []
+    ≡ true ∷ false ∷ false ∷ []
+unfolding closing reading freshOf
 samples-close = refl
 
 -- Weights 10,000, 10,001, -10,000 and -10,001 at the last place.
@@ -43,5 +43,5 @@ abbrev last : ℕ → ℕ → Bool
 last a b = badLeaf sizes (set (set leaf 14 a) 15 b) 0
 
 samples-limit : last 16 39 ∷ last 17 39 ∷ last 240 216 ∷ last 239 216 ∷ [] ≡ false ∷ true ∷ false ∷ true ∷ []
-unfolding badLeaf anyBelow le16
+unfolding badLeaf reading
 samples-limit = refl

@@ -1,15 +1,18 @@
-// The leaves of a docket: test 11, and the leaf rule. A weight is read with 10,000 added, so all numbers are unsigned. Every public function is total.
+// The leaves of a docket: test 11, and the leaf rule. A weight is read with 10,000 added, so all numbers are unsigned.
+// Every public function is total. A function is lent the states section where its contract speaks of the protocol.
 ghost use mathlib.Core.Path.{_≡_};
 ghost use mathlib.Core.Bool.{_||_};
-ghost use Prim.Native.Nat.{_+_, _-_, _*_, _<_, min};
-ghost use Rattle.theory.specs.Test.{bit, member};
+ghost use Prim.Native.Nat.{_+_, _-_, _*_, _<_};
+ghost use Rattle.theory.specs.Bool.{bit, member};
 ghost use Rattle.theory.specs.Below.{firstBelow};
 ghost use Rattle.theory.specs.Leaf.{nonIncreasing, leafCloses};
-ghost use Rattle.format.specs.Bytes.{Value};
-ghost use Rattle.format.specs.Format.{tableOf, weightsOf};
-ghost use Rattle.facts.specs.Facts.{factsOf};
-ghost use Rattle.leaf.specs.Leaf.{KnownAt, ShareIs, endWeight, overLimit, badLeaf, keeps, startShare, endShare, shareOf};
+ghost use Rattle.format.specs.Code.{Value};
+ghost use Rattle.format.specs.Format.{protocolOf, endWeight, weightsOf};
+ghost use Rattle.facts.specs.Code.{factsOf};
+ghost use Rattle.leaf.specs.Leaf.{overLimit, badLeaf};
+ghost use Rattle.leaf.specs.Code.{RuleAt, lightens, KnownAt, startShare, endShare, shareOf, ShareIs};
 use facts::Facts;
+use format::Rule;
 use format::Sizes;
 
 // What the facts say of the states at one party. A state that is absent is not among those present.
@@ -22,11 +25,11 @@ pub struct Known {
 // The share of one state in the leaf rule.
 pub struct Share {
     // Whether the facts allow the signs of its weights.
-    pub fits: bool,
+    pub allowed: bool,
     // Its surpluses and its spare together.
-    pub plus: u32,
+    pub gains: u32,
     // Its shortfalls together.
-    pub minus: u32,
+    pub losses: u32,
 }
 
 // The first state at which leaf l has a weight outside -10,000 to 10,000 at end e + 1, or the number of states.
@@ -43,6 +46,7 @@ fn first_fault(leaves: &[u8], z: Sizes, l: u16, e: u16) -> u16
     s
 }
 
+// Whether leaf l has a weight outside -10,000 to 10,000.
 fn leaf_bad(leaves: &[u8], z: Sizes, l: u16) -> bool
     ensures { λ r. ⌜ r ≡ badLeaf z (now (leaves .entry)) l ⌝ }
 {
@@ -75,8 +79,15 @@ fn pair_weight(leaves: &[u8], z: Sizes, l: u16, e: u16, p: usize, q: usize) -> u
     first + second
 }
 
+// Rule r, whose fields are bytes.
+fn rule_at(rules: &[u8], r: u16) -> Rule
+    ensures { λ x. ⌜ RuleAt (now (rules .entry)) r x ⌝ }
+{
+    format::read_rule(rules, r)
+}
+
 // Whether i is a member of unused, or the after pair of rule r weighs at end e + 1 at most what the before pair weighs.
-fn rule_keeps(
+fn rule_lightens(
     rules: &[u8],
     leaves: &[u8],
     z: Sizes,
@@ -86,36 +97,40 @@ fn rule_keeps(
     i: usize,
     r: u16,
 ) -> bool
-    ensures { λ t. ⌜ t ≡ (member unused i || keeps z (now (rules .entry)) (now (leaves .entry)) l e r) ⌝ }
+    ensures { λ t. ⌜ t ≡ (member unused i || lightens z (now (rules .entry)) (now (leaves .entry)) l e r) ⌝ }
 {
     if bits::has(unused, i) {
         return true;
     }
-    let rule = format::read_rule(rules, r);
+    let rule = rule_at(rules, r);
     let before = pair_weight(leaves, z, l, e, rule.p, rule.q);
     let after = pair_weight(leaves, z, l, e, rule.p2, rule.q2);
     after <= before
 }
 
-fn lesser(a: u16, b: u16) -> u16
-    ensures { λ x. ⌜ x ≡ min a b ⌝ }
-{
-    if a < b { a } else { b }
-}
-
-// Whether every rule that is not unused in run e + 1 has an after pair that weighs at end e + 1 at most what the before pair weighs. The set of unused rules is read once for 64 rules.
-fn non_increasing(facts: Facts, rules: &[u8], leaves: &[u8], z: Sizes, l: u16, e: u16) -> bool
-    ensures { λ t. ⌜ t ≡ nonIncreasing (tableOf z (now (rules .entry))) (factsOf facts .unused (e + 1)) (endWeight z (now (leaves .entry)) l e) ⌝ }
+// Whether every rule that is not unused in run e + 1 has an after pair that weighs at end e + 1 at most what the before
+// pair weighs. The set of unused rules is read once for 64 rules.
+fn non_increasing(
+    facts: Facts,
+    states: &[u8],
+    rules: &[u8],
+    leaves: &[u8],
+    z: Sizes,
+    l: u16,
+    e: u16,
+) -> bool
+    ensures { λ t. ⌜ t ≡ nonIncreasing (protocolOf z (now (states .entry)) (now (rules .entry)))
+        (factsOf facts .unused (e + 1)) (endWeight z (now (leaves .entry)) l e) ⌝ }
 {
     let run = (e as usize) + 1;
     let mut word: usize = 0;
     let mut r: u16 = 0;
     'words: while r < z.rules {
         let unused = facts.unused(run, word);
-        let n = lesser(z.rules - r, 64) as usize;
+        let n = format::lesser((z.rules - r) as u32, 64) as usize;
         let mut i: usize = 0;
         'rules: while i < n {
-            if !rule_keeps(rules, leaves, z, l, e, unused, i, r) {
+            if !rule_lightens(rules, leaves, z, l, e, unused, i, r) {
                 return false;
             }
             i += 1;
@@ -126,6 +141,7 @@ fn non_increasing(facts: Facts, rules: &[u8], leaves: &[u8], z: Sizes, l: u16, e
     true
 }
 
+// What the facts say of the states at the party.
 fn known_at(facts: Facts, party: usize) -> Known
     ensures { λ r. ⌜ KnownAt (factsOf facts) party r ⌝ }
 {
@@ -157,15 +173,15 @@ fn start_share(known: Known, i: usize, y: u32) -> Share
 {
     if 20000 < y {
         return Share {
-            fits: bits::has(known.absent, i),
-            plus: 0,
-            minus: 0,
+            allowed: bits::has(known.absent, i),
+            gains: 0,
+            losses: 0,
         };
     }
     Share {
-        fits: true,
-        plus: excess(bits::has(known.present, i), 20000, y),
-        minus: 0,
+        allowed: true,
+        gains: excess(bits::has(known.present, i), 20000, y),
+        losses: 0,
     }
 }
 
@@ -175,22 +191,22 @@ fn end_share(known: Known, i: usize, y: u32) -> Share
 {
     if 10000 <= y {
         return Share {
-            fits: true,
-            plus: excess(bits::has(known.present, i), y, 10000),
-            minus: 0,
+            allowed: true,
+            gains: excess(bits::has(known.present, i), y, 10000),
+            losses: 0,
         };
     }
     if bits::has(known.absent, i) {
         return Share {
-            fits: true,
-            plus: 0,
-            minus: 0,
+            allowed: true,
+            gains: 0,
+            losses: 0,
         };
     }
     Share {
-        fits: bits::has(known.at_most_one, i),
-        plus: 0,
-        minus: 10000 - y,
+        allowed: bits::has(known.at_most_one, i),
+        gains: 0,
+        losses: 10000 - y,
     }
 }
 
@@ -210,9 +226,9 @@ fn share_at(
     let y2 = format::leaf_weight(leaves, z.states, l, 1, s);
     if (y1 == 10000) & (y2 == 10000) {
         return Share {
-            fits: true,
-            plus: 0,
-            minus: 0,
+            allowed: true,
+            gains: 0,
+            losses: 0,
         };
     }
     let i = s as usize;
@@ -220,36 +236,44 @@ fn share_at(
     let b = end_share(first, i, y1);
     let c = end_share(second, i, y2);
     Share {
-        fits: a.fits & b.fits & c.fits,
-        plus: b.plus + c.plus + a.plus,
-        minus: b.minus + c.minus,
+        allowed: a.allowed & b.allowed & c.allowed,
+        gains: b.gains + c.gains + a.gains,
+        losses: b.losses + c.losses,
     }
 }
 
 // The leaf rule: whether leaf l closes on the facts.
-pub fn leaf_closes(facts: Facts, rules: &[u8], leaves: &[u8], z: Sizes, l: u16) -> bool
-    ensures { λ r. ⌜ r ≡ leafCloses (tableOf z (now (rules .entry))) (factsOf facts) (weightsOf z (now (leaves .entry)) l) ⌝ }
+pub fn leaf_closes(
+    facts: Facts,
+    states: &[u8],
+    rules: &[u8],
+    leaves: &[u8],
+    z: Sizes,
+    l: u16,
+) -> bool
+    ensures { λ r. ⌜ r ≡ leafCloses (protocolOf z (now (states .entry)) (now (rules .entry)))
+        (factsOf facts) (weightsOf z (now (leaves .entry)) l) ⌝ }
 {
-    if !non_increasing(facts, rules, leaves, z, l, 0) {
+    if !non_increasing(facts, states, rules, leaves, z, l, 0) {
         return false;
     }
-    if !non_increasing(facts, rules, leaves, z, l, 1) {
+    if !non_increasing(facts, states, rules, leaves, z, l, 1) {
         return false;
     }
     let start = known_at(facts, 0);
     let first = known_at(facts, 1);
     let second = known_at(facts, 2);
-    let mut plus: u64 = 0;
-    let mut minus: u64 = 0;
+    let mut gains: u64 = 0;
+    let mut losses: u64 = 0;
     let mut s: u16 = 0;
     while s < z.states {
         let one = share_at(start, first, second, leaves, z, l, s);
-        if !one.fits {
+        if !one.allowed {
             return false;
         }
-        plus += one.plus as u64;
-        minus += one.minus as u64;
+        gains += one.gains as u64;
+        losses += one.losses as u64;
         s += 1;
     }
-    minus < plus
+    losses < gains
 }

@@ -1,2 +1,3 @@
--- Definitions stand in Node, their laws in Node.Laws.
-pub mod Node
+-- Code: what a tree refutes, and what one node comes to, over the sections and words that the code has.
+-- Code/Laws: what the functions and their callers need.
+pub mod Code

@@ -1,18 +1,32 @@
-// What one node of the tree comes to: its fields, its ground and the facts of its children. A set of states is a word of 64 bits.
+// What a tree refutes, and what one node of it comes to: its fields, its ground and the facts of its children. A set of
+// states is a word of 64 bits. A function is lent the states section where its contract speaks of the protocol.
 ghost use mathlib.Core.Path.{_≡_};
 ghost use mathlib.Core.Bool.{true, _&&_};
 ghost use mathlib.Core.List.{[], _∷_};
-ghost use Prim.Native.Nat.{_≤_, _<_};
+ghost use Prim.Native.Nat.{_^_, _≤_, _<_};
 ghost use lib.Dec.{eqb, ltb};
-ghost use Rattle.theory.specs.Test.{member};
+ghost use Rattle.theory.specs.Bool.{member};
 ghost use Rattle.theory.specs.Facts.{withAbsent, withPresent, withUnused};
 ghost use Rattle.theory.specs.Leaf.{leafCloses};
-ghost use Rattle.theory.specs.Tree.{touches, within};
-ghost use Rattle.format.specs.Format.{ruleP, ruleQ, weightsOf};
-ghost use Rattle.facts.specs.Facts.{factsOf, onlyIf};
-ghost use Rattle.node.specs.Node.{among, assumedOf, nodeOf, nodeTable, SoundRules, check, settled, turnBy, turnOf, leafFields, runFields, stateFields, ruleFields, setFields, disabledChildren, setChild, isTrapOf, FlowAt, breakingOf, turnAt};
+ghost use Rattle.theory.specs.Tree.{touches};
+ghost use Rattle.format.specs.Format.{ruleP, ruleQ, protocolOf, weightsOf};
+ghost use Rattle.facts.specs.Code.{factsOf, onlyIf};
+ghost use Rattle.node.specs.Code.{assumedWord, AimFits, nodeOf, SoundRules, FlowAt, breakingOf, isTrapOf};
+ghost use Rattle.node.specs.Code.{check, judged, turnAt, turnOfOutcome, turnOfStep};
+ghost use Rattle.node.specs.Code.{leafFields, runFields, stateFields, ruleFields, setFields};
+ghost use Rattle.node.specs.Code.{outputGone, NamesRule, disabledChildren, NamesSet, partyIf, setGround, setChild};
 use facts::Facts;
 use format::Sizes;
+
+// What a tree refutes: so many runs, each of which ends with a state of the output assumed for it; and the states of
+// output 0 and of output 1.
+pub struct Aim {
+    pub runs: usize,
+    pub first: bool,
+    pub second: bool,
+    pub zeros: u64,
+    pub ones: u64,
+}
 
 // The fields of a node.
 pub struct Node {
@@ -30,7 +44,8 @@ pub enum Outcome {
     Children,
 }
 
-// An outcome, with the facts of two children: of one child only the first count, of none neither. (An enum holds no array, so the facts stand beside it.)
+// An outcome, with the facts of two children: of one child only the first count, of none neither. (An enum holds no
+// array, so the facts stand beside it.)
 pub struct Step {
     pub outcome: Outcome,
     pub first: Facts,
@@ -44,11 +59,12 @@ struct Flow {
 }
 
 // Whether a set is a trap, or a siphon, and the facts of the child.
-struct Tested {
+struct SetTested {
     trap: bool,
     child: Facts,
 }
 
+// The fields of node i.
 fn node_at(nodes: &[u8], i: u16) -> Node
     ensures { λ r. ⌜ r ≡ nodeOf (now (nodes .entry)) i ⌝ }
 {
@@ -65,8 +81,8 @@ fn node_at(nodes: &[u8], i: u16) -> Node
 }
 
 // The outcome where fields and ground are as they should be, otherwise the refusal: 12 before 13.
-fn settle(fields: bool, ground: bool, outcome: Outcome, first: Facts, second: Facts) -> Step
-    ensures { λ r. ⌜ turnOf r ≡ check fields 12 (check ground 13 (turnBy outcome (factsOf first) (factsOf second))) ⌝ }
+fn judge(fields: bool, ground: bool, outcome: Outcome, first: Facts, second: Facts) -> Step
+    ensures { λ r. ⌜ turnOfStep r ≡ check fields 12 (check ground 13 (turnOfOutcome outcome (factsOf first) (factsOf second))) ⌝ }
 {
     if !fields {
         return Step {
@@ -89,85 +105,101 @@ fn settle(fields: bool, ground: bool, outcome: Outcome, first: Facts, second: Fa
     }
 }
 
-// The states of the output assumed for an end: 1 for end 2, otherwise 0.
-fn assumed_states(outputs: u64, z: Sizes, party: usize) -> u64
-    ensures { λ r. ⌜ member r ≡ among (z .states) (assumedOf outputs party) ⌝ }
-{
-    let states = bits::full(z.states as usize);
-    let zeros = bits::without(states, outputs);
-    let second = party == 2;
-    if second {
-        return bits::without(states, zeros);
-    }
-    zeros
-}
-
 // Kind 0: the leaf rule.
-fn leaf_step(rules: &[u8], leaves: &[u8], z: Sizes, n: Node, facts: Facts) -> Step
-    ensures { λ r. ⌜ turnOf r ≡ settled (leafFields z n) (leafCloses (nodeTable z (now (rules .entry)) 0) (factsOf facts) (weightsOf z (now (leaves .entry)) (n .argument))) [] ⌝ }
+fn leaf_step(states: &[u8], rules: &[u8], leaves: &[u8], z: Sizes, n: Node, facts: Facts) -> Step
+    ensures { λ r. ⌜ turnOfStep r ≡ judged (leafFields z n) (leafCloses (protocolOf z (now (states .entry)) (now (rules .entry)))
+        (factsOf facts) (weightsOf z (now (leaves .entry)) (n .argument))) [] ⌝ }
 {
     let fields = (n.party == 0) & (n.argument < z.leaves) & (n.set == 0);
-    let closes = leaf::leaf_closes(facts, rules, leaves, z, n.argument);
-    settle(fields, closes, Outcome::Closed, facts, facts)
+    let closes = leaf::leaf_closes(facts, states, rules, leaves, z, n.argument);
+    judge(fields, closes, Outcome::Closed, facts, facts)
+}
+
+// The states of the output that the aim assumes for an end.
+fn assumed_word(aim: Aim, party: usize) -> u64
+    ensures { λ w. ⌜ w ≡ assumedWord aim party ⌝ }
+{
+    let second = party == 2;
+    let output = (second & aim.second) | (!second & aim.first);
+    if output {
+        return aim.ones;
+    }
+    aim.zeros
 }
 
 // Kind 1: all states of the output assumed for an end are absent there.
-fn output_step(outputs: u64, z: Sizes, n: Node, facts: Facts) -> Step
+fn output_step(states: &[u8], z: Sizes, aim: Aim, n: Node, facts: Facts) -> Step
     requires { ⌜ z .states ≤ 64 ⌝ }
-    ensures { λ r. ⌜ turnOf r ≡ settled (runFields n) (within (nodeTable z [] outputs) (assumedOf outputs (n .party)) (factsOf facts .absent (n .party))) [] ⌝ }
+    requires { ⌜ AimFits z (now states) aim ⌝ }
+    ensures { λ r. ⌜ turnOfStep r ≡ judged (runFields (aim .runs) n)
+        (outputGone z (now (states .entry)) aim (factsOf facts) (n .party)) [] ⌝ }
 {
-    let fields = (1 <= n.party) & (n.party <= 2) & (n.argument == 0) & (n.set == 0);
-    let assumed = assumed_states(outputs, z, n.party);
-    let ground = bits::subset(assumed, facts.absent(n.party));
-    settle(fields, ground, Outcome::Closed, facts, facts)
+    let fields = (1 <= n.party) & (n.party <= aim.runs) & (n.argument == 0) & (n.set == 0);
+    let ground = bits::subset(assumed_word(aim, n.party), facts.absent(n.party));
+    judge(fields, ground, Outcome::Closed, facts, facts)
 }
 
 // Kind 2: a state is both present and absent.
-fn contradiction_step(z: Sizes, n: Node, facts: Facts) -> Step
-    ensures { λ r. ⌜ turnOf r ≡ settled (stateFields z n) (factsOf facts .present (n .party) (n .argument) && factsOf facts .absent (n .party) (n .argument)) [] ⌝ }
+fn contradiction_step(z: Sizes, runs: usize, n: Node, facts: Facts) -> Step
+    ensures { λ r. ⌜ turnOfStep r ≡ judged (stateFields z runs n)
+        (factsOf facts .present (n .party) (n .argument) && factsOf facts .absent (n .party) (n .argument)) [] ⌝ }
 {
-    let fields = (n.party <= 2) & (n.argument < z.states) & (n.set == 0);
+    let fields = (n.party <= runs) & (n.argument < z.states) & (n.set == 0);
     let state = n.argument as usize;
     let present = bits::has(facts.present(n.party), state);
     let absent = bits::has(facts.absent(n.party), state);
-    settle(fields, present & absent, Outcome::Closed, facts, facts)
+    judge(fields, present & absent, Outcome::Closed, facts, facts)
 }
 
-// Kind 3: a rule is not enabled at an end. So one of its states is absent there, or, where it meets its own kind, there is at most one.
-fn disabled_step(rules: &[u8], z: Sizes, n: Node, facts: Facts) -> Step
+// Kind 3: whether the fields are good; then they name a run, and a rule whose before pair is below 64.
+fn names_rule(rules: &[u8], z: Sizes, runs: usize, n: Node) -> bool
     requires { ⌜ SoundRules z (now rules) ⌝ }
-    ensures { λ r. ⌜ turnOf r ≡ settled (ruleFields z n) true (disabledChildren (factsOf facts) (n .party) (ruleP (now (rules .entry)) (n .argument)) (ruleQ (now (rules .entry)) (n .argument))) ⌝ }
+    requires { ⌜ runs ≤ 2 ⌝ }
+    ensures { λ t. ⌜ NamesRule z (now (rules .entry)) runs n t ⌝ }
 {
-    let fields = (1 <= n.party) & (n.party <= 2) & (n.argument < z.rules) & (n.set == 0);
+    (1 <= n.party) & (n.party <= runs) & (n.argument < z.rules) & (n.set == 0)
+}
+
+// Kind 3: a rule is not enabled at an end. So one of its states is absent there, or, where it meets its own kind, there
+// is at most one.
+fn disabled_step(rules: &[u8], z: Sizes, runs: usize, n: Node, facts: Facts) -> Step
+    requires { ⌜ SoundRules z (now rules) ⌝ }
+    requires { ⌜ runs ≤ 2 ⌝ }
+    ensures { λ r. ⌜ turnOfStep r ≡ judged (ruleFields z runs n) true (disabledChildren (factsOf facts) (n .party)
+        (ruleP (now (rules .entry)) (n .argument)) (ruleQ (now (rules .entry)) (n .argument))) ⌝ }
+{
+    let fields = names_rule(rules, z, runs, n);
     let p = format::rule_p(rules, n.argument);
     let q = format::rule_q(rules, n.argument);
     let same = p == q;
     if same {
         let one = facts.mark_at_most_one(n.party, bits::single(p));
-        return settle(fields, true, Outcome::Child, one, one);
+        return judge(fields, true, Outcome::Child, one, one);
     }
     let first = facts.mark_absent(n.party, bits::single(p));
     let second = facts.mark_absent(n.party, bits::single(q));
-    settle(fields, true, Outcome::Children, first, second)
+    judge(fields, true, Outcome::Children, first, second)
 }
 
 // Kind 4: a state is absent, or it is present.
-fn split_step(z: Sizes, n: Node, facts: Facts) -> Step
+fn split_step(z: Sizes, runs: usize, n: Node, facts: Facts) -> Step
     requires { ⌜ z .states ≤ 64 ⌝ }
-    ensures { λ r. ⌜ turnOf r ≡ settled (stateFields z n) true (withAbsent (factsOf facts) (n .party) (eqb (n .argument)) ∷ withPresent (factsOf facts) (n .party) (eqb (n .argument)) ∷ []) ⌝ }
+    requires { ⌜ runs ≤ 2 ⌝ }
+    ensures { λ r. ⌜ turnOfStep r ≡ judged (stateFields z runs n) true
+        (withAbsent (factsOf facts) (n .party) (eqb (n .argument)) ∷ withPresent (factsOf facts) (n .party) (eqb (n .argument)) ∷ []) ⌝ }
 {
-    let fields = (n.party <= 2) & (n.argument < z.states) & (n.set == 0);
+    let fields = (n.party <= runs) & (n.argument < z.states) & (n.set == 0);
     let state = bits::single(n.argument as usize);
     let first = facts.mark_absent(n.party, state);
     let second = facts.mark_present(n.party, state);
-    settle(fields, true, Outcome::Children, first, second)
+    judge(fields, true, Outcome::Children, first, second)
 }
 
 // The rules from 64 word on that take from the set and those that put into it.
-fn word_flow(rules: &[u8], z: Sizes, set: u64, word: u16) -> Flow
+fn word_flow(states: &[u8], rules: &[u8], z: Sizes, set: u64, word: u16) -> Flow
     requires { ⌜ SoundRules z (now rules) ⌝ }
     requires { ⌜ word < 4 ⌝ }
-    ensures { λ f. ⌜ FlowAt z (now (rules .entry)) (member set) word f ⌝ }
+    ensures { λ f. ⌜ FlowAt (protocolOf z (now (states .entry)) (now (rules .entry))) (member set) word f ⌝ }
 {
     let mut taking: u64 = 0;
     let mut putting: u64 = 0;
@@ -187,7 +219,8 @@ fn word_flow(rules: &[u8], z: Sizes, set: u64, word: u16) -> Flow
     Flow { taking, putting }
 }
 
-// The rules that take from the set and put nothing into it; with reversed, those that put into it and take nothing from it.
+// The rules that take from the set and put nothing into it; with reversed, those that put into it and take nothing from
+// it.
 fn breaking(f: Flow, reversed: bool) -> u64
     ensures { λ r. ⌜ member r ≡ breakingOf reversed f ⌝ }
 {
@@ -197,8 +230,10 @@ fn breaking(f: Flow, reversed: bool) -> u64
     bits::without(f.taking, f.putting)
 }
 
-// Whether the set is a trap of the rules that are not unused in the run; with reversed, of the reversed rules: a siphon. The child has the facts of `marked`, and in the run the rules that touch the set are unused.
+// Whether the set is a trap of the rules that are not unused in the run; with reversed, of the reversed rules: a siphon.
+// The child has the facts of `marked`, and in the run the rules that touch the set are unused.
 fn test_set(
+    states: &[u8],
     rules: &[u8],
     z: Sizes,
     facts: Facts,
@@ -206,69 +241,102 @@ fn test_set(
     run: usize,
     set: u64,
     reversed: bool,
-) -> Tested
+) -> SetTested
     requires { ⌜ SoundRules z (now rules) ⌝ }
-    ensures { λ t. ⌜ t .trap ≡ isTrapOf reversed z (now (rules .entry)) (factsOf facts .unused run) (member set) ⌝ }
-    ensures { λ t. ⌜ factsOf (t .child) ≡ withUnused (factsOf marked) run (onlyIf (ltb run 3) (touches (nodeTable z (now (rules .entry)) 0) (member set))) ⌝ }
+    ensures trap { λ t. ⌜ t .trap ≡ isTrapOf reversed (protocolOf z (now (states .entry)) (now (rules .entry)))
+        (factsOf facts .unused run) (member set) ⌝ }
+    ensures child { λ t. ⌜ factsOf (t .child) ≡ withUnused (factsOf marked) run
+        (onlyIf (ltb run 3) (touches (protocolOf z (now (states .entry)) (now (rules .entry))) (member set))) ⌝ }
 {
     let mut trap = true;
     let mut child = marked;
     let mut word: u16 = 0;
     while 64 * word < z.rules {
-        let f = word_flow(rules, z, set, word);
+        let f = word_flow(states, rules, z, set, word);
         let unused = facts.unused(run, word as usize);
         trap = trap & bits::subset(breaking(f, reversed), unused);
         child = child.mark_unused(run, word as usize, bits::union(f.taking, f.putting));
         word += 1;
     }
-    Tested { trap, child }
+    SetTested { trap, child }
 }
 
-// Kinds 5 and 6: a trap that is absent at its end was absent at the start; with reversed, a siphon that is absent at the start is absent at its end. The rules that touch it are unused.
+// Whether a word is a non-empty set of states.
+fn is_set(z: Sizes, set: u64) -> bool
+    ensures { λ t. ⌜ t ≡ (ltb 0 set && ltb set (2 ^ z .states)) ⌝ }
+{
+    let within = bits::subset(set, bits::full(z.states as usize));
+    (0 < set) & within
+}
+
+// Kinds 5 and 6: whether the fields are good; then they name a run and a set of states.
+fn names_set(z: Sizes, runs: usize, n: Node) -> bool
+    requires { ⌜ z .states ≤ 64 ⌝ }
+    requires { ⌜ runs ≤ 2 ⌝ }
+    ensures { λ t. ⌜ NamesSet z runs n t ⌝ }
+{
+    (1 <= n.party) & (n.party <= runs) & (n.argument == 0) & is_set(z, n.set)
+}
+
+// The party where the test passed, otherwise the start.
+fn party_if(t: bool, party: usize) -> usize
+    ensures { λ r. ⌜ r ≡ partyIf t party ⌝ }
+{
+    if t { party } else { 0 }
+}
+
+// Kinds 5 and 6: a trap that is absent at its end was absent at the start; with reversed, a siphon that is absent at the
+// start is absent at its end. The rules that touch it are unused.
 fn set_step(
+    states: &[u8],
     rules: &[u8],
     z: Sizes,
+    runs: usize,
     n: Node,
     facts: Facts,
-    from: usize,
-    to: usize,
     reversed: bool,
 ) -> Step
     requires { ⌜ SoundRules z (now rules) ⌝ }
-    requires { ⌜ to ≤ n .party ⌝ }
-    ensures { λ r. ⌜ turnOf r ≡ settled (setFields z n) (within (nodeTable z (now (rules .entry)) 0) (member (n .set)) (factsOf facts .absent from) && isTrapOf reversed z (now (rules .entry)) (factsOf facts .unused (n .party)) (member (n .set))) (setChild z (now (rules .entry)) (factsOf facts) to n ∷ []) ⌝ }
+    requires { ⌜ runs ≤ 2 ⌝ }
+    ensures { λ r. ⌜ turnOfStep r ≡ judged (setFields z runs n)
+        (setGround reversed (protocolOf z (now (states .entry)) (now (rules .entry))) (factsOf facts) n)
+        (setChild reversed (protocolOf z (now (states .entry)) (now (rules .entry))) (factsOf facts) n ∷ []) ⌝ }
 {
-    let within = bits::subset(n.set, bits::full(z.states as usize));
-    let fields = (1 <= n.party) & (n.party <= 2) & (n.argument == 0) & ((0 < n.set) & within);
+    let fields = names_set(z, runs, n);
+    let from = party_if(!reversed, n.party);
     let absent = bits::subset(n.set, facts.absent(from));
+    let to = party_if(reversed, n.party);
     let marked = facts.mark_absent(to, n.set);
-    let t = test_set(rules, z, facts, marked, n.party, n.set, reversed);
-    settle(fields, absent & t.trap, Outcome::Child, t.child, t.child)
+    let t = test_set(states, rules, z, facts, marked, n.party, n.set, reversed);
+    judge(fields, absent & t.trap, Outcome::Child, t.child, t.child)
 }
 
 // Node i on the facts, by its kind.
 pub fn node_step(
+    states: &[u8],
     rules: &[u8],
     nodes: &[u8],
     leaves: &[u8],
     z: Sizes,
-    outputs: u64,
+    aim: Aim,
     facts: Facts,
     i: u16,
 ) -> Step
     requires { ⌜ SoundRules z (now rules) ⌝ }
-    ensures { λ r. ⌜ turnOf r ≡ turnAt z (now (rules .entry)) (now (nodes .entry)) (now (leaves .entry)) outputs (factsOf facts) i ⌝ }
+    requires { ⌜ AimFits z (now states) aim ⌝ }
+    ensures { λ r. ⌜ turnOfStep r ≡ turnAt z (now (states .entry)) (now (rules .entry)) (now (nodes .entry)) (now (leaves .entry))
+        aim (factsOf facts) i ⌝ }
 {
     let n = node_at(nodes, i);
     let kind = n.kind;
     match kind {
-        0 => leaf_step(rules, leaves, z, n, facts),
-        1 => output_step(outputs, z, n, facts),
-        2 => contradiction_step(z, n, facts),
-        3 => disabled_step(rules, z, n, facts),
-        4 => split_step(z, n, facts),
-        5 => set_step(rules, z, n, facts, n.party, 0, false),
-        6 => set_step(rules, z, n, facts, 0, n.party, true),
-        7..=255 => settle(false, true, Outcome::Closed, facts, facts),
+        0 => leaf_step(states, rules, leaves, z, n, facts),
+        1 => output_step(states, z, aim, n, facts),
+        2 => contradiction_step(z, aim.runs, n, facts),
+        3 => disabled_step(rules, z, aim.runs, n, facts),
+        4 => split_step(z, aim.runs, n, facts),
+        5 => set_step(states, rules, z, aim.runs, n, facts, false),
+        6 => set_step(states, rules, z, aim.runs, n, facts, true),
+        7..=255 => judge(false, true, Outcome::Closed, facts, facts),
     }
 }

@@ -2,42 +2,21 @@
 use mathlib.Core.Path.{_≡_, refl}
 use mathlib.Core.List.{List, [], _∷_}
 use Prim.Native.Nat.{ℕ}
-use lib.ListN.{length, take, set}
-use Rattle.theory.specs.Below.{firstBelow, anyBelow}
-use Rattle.format.specs.Bytes.{le16, le32}
-use Rattle.format.specs.Format.{headerOf}
-use Rattle.shape.specs.Judge.{judge}
+use lib.ListN.{take, set}
+use Rattle.format.specs.Samples.{reading, broadcast, majority}
 use Rattle.shape.specs.Shape.{badState, repeats, badLayer, headerShape, shapeOf}
 use Rattle.shape.specs.declared.Shape.{Shape}
 use Rattle.shape.specs.declared.Shape.the-variants.{Sound, Refused}
 
--- The broadcast docket of document 01, 99 bytes.
-abbrev pub broadcast : List ℕ
-broadcast =
-    1 ∷ 0 ∷ 2 ∷ 0 ∷ 1 ∷ 0 ∷ 1 ∷ 0 ∷ 5 ∷ 0 ∷ 0 ∷ 0 ∷ 24 ∷ 0 ∷ 26 ∷ 0 ∷ 31 ∷ 0 ∷ 39 ∷ 0 ∷ 99 ∷ 0 ∷ 99 ∷ 0
-    ∷ 2 ∷ 3
-    ∷ 0 ∷ 1 ∷ 1 ∷ 1 ∷ 0
-    ∷ 1 ∷ 0 ∷ 0 ∷ 0 ∷ 0 ∷ 0 ∷ 0 ∷ 0
-    ∷ 3 ∷ 1 ∷ 0 ∷ 0 ∷ 0 ∷ 0 ∷ 0 ∷ 0 ∷ 0 ∷ 0 ∷ 0 ∷ 0
-    ∷ 1 ∷ 1 ∷ 0 ∷ 0 ∷ 0 ∷ 0 ∷ 0 ∷ 0 ∷ 0 ∷ 0 ∷ 0 ∷ 0
-    ∷ 5 ∷ 1 ∷ 0 ∷ 0 ∷ 2 ∷ 0 ∷ 0 ∷ 0 ∷ 0 ∷ 0 ∷ 0 ∷ 0
-    ∷ 6 ∷ 2 ∷ 0 ∷ 0 ∷ 2 ∷ 0 ∷ 0 ∷ 0 ∷ 0 ∷ 0 ∷ 0 ∷ 0
-    ∷ 1 ∷ 2 ∷ 0 ∷ 0 ∷ 0 ∷ 0 ∷ 0 ∷ 0 ∷ 0 ∷ 0 ∷ 0 ∷ 0
-    ∷ []
-
--- The majority table of document 01, with one node of zeros: the shape does not look at nodes.
-abbrev pub majority : List ℕ
-majority =
-    1 ∷ 0 ∷ 4 ∷ 0 ∷ 4 ∷ 0 ∷ 2 ∷ 0 ∷ 1 ∷ 0 ∷ 0 ∷ 0 ∷ 24 ∷ 0 ∷ 28 ∷ 0 ∷ 48 ∷ 0 ∷ 80 ∷ 0 ∷ 92 ∷ 0 ∷ 92 ∷ 0
-    ∷ 2 ∷ 3 ∷ 0 ∷ 1 ∷ 0 ∷ 1 ∷ 2 ∷ 3 ∷ 0 ∷ 0 ∷ 3 ∷ 0 ∷ 2 ∷ 0 ∷ 1 ∷ 2 ∷ 1 ∷ 3 ∷ 1 ∷ 2 ∷ 3 ∷ 3 ∷ 3 ∷ 1
-    ∷ 1 ∷ 0 ∷ 0 ∷ 0 ∷ 1 ∷ 0 ∷ 0 ∷ 0 ∷ 0 ∷ 0 ∷ 0 ∷ 0 ∷ 1 ∷ 0 ∷ 0 ∷ 0 ∷ 0 ∷ 0 ∷ 0 ∷ 0 ∷ 0 ∷ 0 ∷ 0 ∷ 0
-    ∷ 1 ∷ 0 ∷ 0 ∷ 0 ∷ 0 ∷ 0 ∷ 0 ∷ 0 ∷ 0 ∷ 0 ∷ 0 ∷ 0 ∷ 0 ∷ 0 ∷ 0 ∷ 0 ∷ 0 ∷ 0 ∷ 0 ∷ 0
-    ∷ []
+-- The names that computed cases of tests 1 to 8 unfold.
+unfoldable pub shaping : ℕ
+unfolding reading shapeOf headerShape badState repeats badLayer
+shaping = 0
 
 -- Number and place: 0, 0 for a sound shape.
 abbrev pub said : Shape → ℕ × ℕ
 said (Sound h) = (0, 0)
-said (Refused n k) = (n, k)
+said (Refused r) = (r .number, r .place)
 
 -- Dockets, and edits of them at one byte or two, each with its number and place.
 abbrev pub samples : List (List ℕ × (ℕ × ℕ))
@@ -88,16 +67,5 @@ expected [] = []
 expected (c ∷ cs) = c .1 ∷ expected cs
 
 samples-right : answers samples ≡ expected samples
-unfolding shapeOf headerShape judge badState repeats badLayer firstBelow anyBelow le16 le32
+unfolding shaping
 samples-right = refl
-
-pub broadcast-length : length broadcast ≡ 99
-broadcast-length = refl
-
-pub broadcast-sound : shapeOf broadcast ≡ Sound (headerOf broadcast)
-unfolding shapeOf headerShape judge badState repeats badLayer firstBelow anyBelow le16 le32
-broadcast-sound = refl
-
-pub broadcast-cut : shapeOf (take 98 broadcast) ≡ Refused 1 0
-unfolding shapeOf headerShape judge badState repeats badLayer firstBelow anyBelow le16 le32
-broadcast-cut = refl

@@ -1,30 +1,33 @@
 -- Tests 1 to 8 of document 01. Each can be laid beside its line of the table in "What a call says".
 use mathlib.Core.Bool.{Bool, false, not, _||_, _&&_}
 use mathlib.Core.List.{List, [], _∷_}
-use Prim.Native.Nat.{ℕ, _+_, _/_, _%_}
+use Prim.Native.Nat.{ℕ, _+_}
 use lib.Dec.{leb, ltb, eqb}
 use lib.ListN.{length, getD}
 use Rattle.theory.specs.Below.{anyBelow}
-use Rattle.format.specs.Format.{headerOf, statesLength, rulesLength, layersLength, nodesLength, leavesLength, partsOf, flags, ruleP, ruleQ, ruleLayer, ruleOf, layerWeight}
+use Rattle.theory.specs.Judge.{Test, only, judge}
+use Rattle.format.specs.Format.{headerOf, statesLength, rulesLength, layersLength, nodesLength, leavesLength, Sections, sectionsOf}
+use Rattle.format.specs.Format.{flags, isInput, ruleP, ruleQ, ruleLayer, ruleOf, layerWeight}
 use Rattle.format.specs.declared.Sizes.{Sizes}
 use Rattle.format.specs.declared.Header.{Header}
-use Rattle.format.specs.declared.Rule.{Rule as Fields}
-use Rattle.shape.specs.Judge.{Test, only, judge}
-use Rattle.shape.specs.declared.Property.{Property}
-use Rattle.shape.specs.declared.Property.the-variants.{Flags, Input, Rule, Pair, Layer, Weight}
-use Rattle.shape.specs.declared.Outcome.{Outcome}
-use Rattle.shape.specs.declared.Outcome.the-variants.{Passed, Failed}
+use Rattle.format.specs.declared.Rule.{Rule}
+use Rattle.shape.specs.declared.Refusal.{Refusal}
 use Rattle.shape.specs.declared.Shape.{Shape}
 use Rattle.shape.specs.declared.Shape.the-variants.{Sound, Refused}
 pub mod Laws
 pub mod Marks
+
+-- A refusal's number and place.
+abbrev pub refusal : ℕ → ℕ → Refusal
+refusal n k = record { number = n; place = k }
 
 -- ---- Tests of the header
 
 abbrev pub outside : ℕ → ℕ → ℕ → Bool
 outside least greatest n = ltb n least || ltb greatest n
 
--- Test 3: the counts (states, rules, layers, nodes, leaves) that are outside their limits. There are 0 layers just when there are 0 rules.
+-- Test 3: the counts (states, rules, layers, nodes, leaves) that are outside their limits. There are 0 layers just when
+-- there are 0 rules.
 abbrev pub countFaults : Sizes → List Bool
 countFaults z =
     outside 2 64 (z .states)
@@ -51,11 +54,8 @@ nth ts k = getD ts k false
 
 -- ---- Properties of one record, of which tests 5 to 8 are made
 
-abbrev pub otherBits : List ℕ → ℕ → Bool
-otherBits states s = ltb 3 (flags states s)
-
-abbrev pub isInput : List ℕ → ℕ → Bool
-isInput states s = eqb (flags states s / 2 % 2) 1
+abbrev pub otherBits : Sizes → List ℕ → ℕ → Bool
+otherBits z states s = ltb 3 (flags z states s)
 
 -- Rules e and r have the same before pair.
 abbrev pub samePair : List ℕ → ℕ → ℕ → Bool
@@ -71,10 +71,10 @@ tooLarge n layers l s = ltb 1000000 (layerWeight n layers l s)
 
 -- Test 5: at a state, other bits are set; at place S, there is no input state at all.
 unfoldable pub badState : Sizes → List ℕ → ℕ → Bool
-badState z states s = ltb s (z .states) && otherBits states s || eqb s (z .states) && not (anyBelow (z .states) (isInput states))
+badState z states s = ltb s (z .states) && otherBits z states s || eqb s (z .states) && not (anyBelow (z .states) (isInput z states))
 
 -- Test 6: a state ≥ S, a pair out of order, pairs equal, or a layer ≥ L.
-abbrev pub badFields : Sizes → Fields → Bool
+abbrev pub badFields : Sizes → Rule → Bool
 badFields z x =
     leb (z .states) (x .p)
     || leb (z .states) (x .q)
@@ -92,10 +92,6 @@ badRule z rules r = badFields z (ruleOf rules r)
 unfoldable pub repeats : List ℕ → ℕ → Bool
 repeats rules r = anyBelow r (samePair rules r)
 
--- The layers below 64 that one of the first n rules is in.
-unfoldable pub usedBelow : List ℕ → ℕ → ℕ → Bool
-usedBelow rules n l = ltb l 64 && anyBelow n (inLayer rules l)
-
 -- Test 8: no rule in the layer, or a weight too large.
 unfoldable pub badLayer : Sizes → List ℕ → List ℕ → ℕ → Bool
 badLayer z rules layers l = not (anyBelow (z .rules) (inLayer rules l)) || anyBelow (z .states) (tooLarge (z .states) layers l)
@@ -103,58 +99,31 @@ badLayer z rules layers l = not (anyBelow (z .rules) (inLayer rules l)) || anyBe
 -- ---- The check of the shape
 
 -- Tests 5 to 8.
-abbrev pub partTests : Sizes → List ℕ → List ℕ → List ℕ → List Test
-partTests z states rules layers =
-    record { number = 5; places = z .states + 1; bad = badState z states }
-    ∷ record { number = 6; places = z .rules; bad = badRule z rules }
-    ∷ record { number = 7; places = z .rules; bad = repeats rules }
-    ∷ record { number = 8; places = z .layers; bad = badLayer z rules layers }
+abbrev pub sectionTests : Sizes → Sections → List Test
+sectionTests z x =
+    record { number = 5; places = z .states + 1; bad = badState z (x .states) }
+    ∷ record { number = 6; places = z .rules; bad = badRule z (x .rules) }
+    ∷ record { number = 7; places = z .rules; bad = repeats (x .rules) }
+    ∷ record { number = 8; places = z .layers; bad = badLayer z (x .rules) (x .layers) }
     ∷ []
 
 -- Tests 1 to 8 of the bytes b with header h.
 abbrev pub shapeTests : List ℕ → Header → List Test
 shapeTests b h =
     only 1 (ltb (length b) 24 || not (eqb (length b) (h .at .total)))
-    ∷ only 2 (not (eqb (h .version) 1))
+    ∷ only 2 (not (eqb (h .sizes .version) 1))
     ∷ record { number = 3; places = 5; bad = nth (countFaults (h .sizes)) }
     ∷ record { number = 4; places = 6; bad = nth (offsetFaults h) }
-    ∷ partTests (h .sizes) (partsOf b h .states) (partsOf b h .rules) (partsOf b h .layers)
+    ∷ sectionTests (h .sizes) (sectionsOf b h)
 
--- What part_tests answers.
-unfoldable pub partOutcome : Sizes → List ℕ → List ℕ → List ℕ → Outcome
-partOutcome z states rules layers = judge Failed Passed (partTests z states rules layers)
-
--- An outcome of part_tests as a shape with header h.
-abbrev pub asShape : Header → Outcome → Shape
-asShape h Passed = Sound h
-asShape h (Failed n k) = Refused n k
-
--- What read_shape answers: the header of bytes that pass, or the refusal's number and place.
+-- What tests 1 to 8 find: the header of bytes that pass, or the refusal.
 unfoldable pub headerShape : List ℕ → Header → Shape
-headerShape b h = judge Refused (Sound h) (shapeTests b h)
+headerShape b h = judge (λ n k. Refused (refusal n k)) (Sound h) (shapeTests b h)
 
 unfoldable pub shapeOf : List ℕ → Shape
 shapeOf b = headerShape b (headerOf b)
 
 -- What follows for a docket that passes tests 1 to 8, by its header; a refusal of these is passed back.
-abbrev pub onShape : {A : Type 0} → (ℕ → ℕ → A) → (Header → A) → Shape → A
-onShape refuse f (Sound h) = f h
-onShape refuse f (Refused n k) = refuse n k
-
--- The number and place of a refused shape; 0 for a sound one.
-abbrev pub numberOf : Shape → ℕ
-numberOf (Sound h) = 0
-numberOf (Refused n k) = n
-
-abbrev pub placeOf : Shape → ℕ
-placeOf (Sound h) = 0
-placeOf (Refused n k) = k
-
--- What holds answers, of the section that the property is about.
-abbrev pub holdsOf : List ℕ → Sizes → Property → ℕ → Bool
-holdsOf x z Flags s = otherBits x s
-holdsOf x z Input s = isInput x s
-holdsOf x z Rule r = badRule z x r
-holdsOf x z (Pair r) e = samePair x r e
-holdsOf x z (Layer l) r = inLayer x l r
-holdsOf x z (Weight l) s = tooLarge (z .states) x l s
+abbrev pub byShape : {A : Type 0} → (Refusal → A) → (Header → A) → Shape → A
+byShape refuse f (Sound h) = f h
+byShape refuse f (Refused r) = refuse r

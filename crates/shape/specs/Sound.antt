@@ -1,10 +1,13 @@
--- What tests 1 to 8 say of a docket that passes them, in words a caller can use. The laws below prove that a sound shape gives it, and that nothing else does.
+-- What tests 1 to 8 say of a docket that passes them, in words a caller can use. Laws proves that a sound shape gives it,
+-- and that nothing else does.
 use mathlib.Core.Path.{_≡_}
 use mathlib.Core.List.{List}
 use Prim.Native.Nat.{ℕ, _+_, _≤_, _<_}
 use lib.ListN.{length}
 use Rattle.theory.specs.Protocol.{WellFormed}
-use Rattle.format.specs.Format.{headerOf, statesLength, rulesLength, layersLength, nodesLength, leavesLength, partsOf, flags, ruleP, ruleQ, layerWeight, protocolOf}
+use Rattle.theory.specs.Ladder.{OrderedPartition}
+use Rattle.format.specs.Format.{headerOf, statesLength, rulesLength, layersLength, nodesLength, leavesLength, Sections, sectionsOf}
+use Rattle.format.specs.Format.{flags, ruleP, ruleQ, layerWeight, protocolOf, layersOf}
 use Rattle.format.specs.declared.Sizes.{Sizes}
 use Rattle.format.specs.declared.Header.{Header}
 pub mod Laws
@@ -32,23 +35,16 @@ pub record Laid (b : List ℕ) (h : Header) : Type 0 where
   pub whole : length b ≡ h .at .total
 
 -- The records are as tests 5 to 8 want them.
-pub record SoundParts (z : Sizes) (states rules layers : List ℕ) : Type 0 where
-  pub state-bits : (s : ℕ) → s < z .states → flags states s ≤ 3
-  pub formed : WellFormed (protocolOf z states rules layers)
-  pub pairs-distinct : (e r : ℕ) → e < r → r < z .rules → ruleP rules e ≡ ruleP rules r → ruleQ rules e ≡ ruleQ rules r → ⊥
-  pub weights-most : (l s : ℕ) → l < z .layers → s < z .states → layerWeight (z .states) layers l s ≤ 1000000
+pub record SoundSections (z : Sizes) (x : Sections) : Type 0 where
+  pub state-bits : (s : ℕ) → s < z .states → flags z (x .states) s ≤ 3
+  pub formed : WellFormed (protocolOf z (x .states) (x .rules))
+  pub partition : OrderedPartition (protocolOf z (x .states) (x .rules)) (layersOf z (x .rules))
+  pub pairs-distinct : (e r : ℕ) → e < r → r < z .rules → ruleP (x .rules) e ≡ ruleP (x .rules) r → ruleQ (x .rules) e ≡ ruleQ (x .rules) r → ⊥
+  pub weights-most : (l s : ℕ) → l < z .layers → s < z .states → layerWeight (z .states) (x .layers) l s ≤ 1000000
 
 pub record SoundShape (b : List ℕ) (h : Header) : Type 0 where
   pub header : h ≡ headerOf b
-  pub version : h .version ≡ 1
+  pub version : h .sizes .version ≡ 1
   pub limits : Limits (h .sizes)
   pub laid : Laid b h
-  pub parts : SoundParts (h .sizes) (partsOf b h .states) (partsOf b h .rules) (partsOf b h .layers)
-
--- The parts have the lengths that their records need.
-pub record Lengths (b : List ℕ) (h : Header) : Type 0 where
-  pub states : length (partsOf b h .states) ≡ statesLength (h .sizes)
-  pub rules : length (partsOf b h .rules) ≡ rulesLength (h .sizes)
-  pub layers : length (partsOf b h .layers) ≡ layersLength (h .sizes)
-  pub nodes : length (partsOf b h .nodes) ≡ nodesLength (h .sizes)
-  pub leaves : length (partsOf b h .leaves) ≡ leavesLength (h .sizes)
+  pub sections : SoundSections (h .sizes) (sectionsOf b h)

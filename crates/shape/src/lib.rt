@@ -5,23 +5,31 @@ ghost use mathlib.Core.List.{[], _∷_};
 ghost use Prim.Native.Nat.{_+_};
 ghost use lib.Dec.{eqb, ltb};
 ghost use lib.ListN.{length};
-ghost use Rattle.theory.specs.Test.{member};
+ghost use Rattle.theory.specs.Bool.{member};
 ghost use Rattle.theory.specs.Below.{anyBelow, firstBelow};
-ghost use Rattle.shape.specs.Shape.{countFaults, offsetFaults, nth, badState, badRule, repeats, inLayer, usedBelow, badLayer, partOutcome, asShape, headerShape, shapeOf, numberOf, placeOf, holdsOf};
+ghost use Rattle.format.specs.Code.{Value};
+ghost use Rattle.shape.specs.Shape.{countFaults, offsetFaults, nth, badState, badRule, samePair, repeats, inLayer, badLayer, headerShape, shapeOf};
+ghost use Rattle.shape.specs.Code.{holdsOf, rowOf, columnOf, usedBelow, testedOf, asShape, refusalOf};
 use facts::Facts;
 use format::Header;
 use format::Sizes;
 
-// What tests 1 to 8 find: the header, or the refusal's number and place.
-pub enum Shape {
-    Sound(Header),
-    Refused { number: u32, place: u32 },
+// A refusal: its number, and its place.
+pub struct Refusal {
+    pub number: u32,
+    pub place: u32,
 }
 
-// What tests of the parts alone find.
-pub enum Outcome {
+// What tests 1 to 8 find: the header, or the refusal.
+pub enum Shape {
+    Sound(Header),
+    Refused(Refusal),
+}
+
+// What tests 5 to 8, of the sections, find.
+pub enum Tested {
     Passed,
-    Failed { number: u32, place: u32 },
+    Failed(Refusal),
 }
 
 // A property of one record of a section.
@@ -104,6 +112,7 @@ fn offset_fault(h: Header) -> u32
     first_true(at.states != 24, rules, layers, nodes, leaves, total)
 }
 
+// Test 6 of rule r.
 fn rule_bad(rules: &[u8], z: Sizes, r: u16) -> bool
     ensures { λ t. ⌜ t ≡ badRule z (now (rules .entry)) r ⌝ }
 {
@@ -120,16 +129,24 @@ fn rule_bad(rules: &[u8], z: Sizes, r: u16) -> bool
         | (m <= t.layer)
 }
 
+// Whether the rules r and e have the same before pair.
+fn same_pair(rules: &[u8], r: u16, e: u16) -> bool
+    ensures { λ t. ⌜ t ≡ samePair (now (rules .entry)) r e ⌝ }
+{
+    let one = format::read_rule(rules, e);
+    let other = format::read_rule(rules, r);
+    (one.p == other.p) & (one.q == other.q)
+}
+
 // Whether record i of the section x has the property.
 fn holds(x: &[u8], z: Sizes, t: Property, i: u16) -> bool
     ensures { λ r. ⌜ r ≡ holdsOf (now (x .entry)) z t i ⌝ }
 {
     match t {
-        Property::Flags => 3 < format::state_flags(x, i),
-        Property::Input => format::state_flags(x, i) / 2 % 2 == 1,
+        Property::Flags => 3 < format::state_flags(x, z, i),
+        Property::Input => format::state_flags(x, z, i) / 2 % 2 == 1,
         Property::Rule => rule_bad(x, z, i),
-        Property::Pair(r) => (format::rule_p(x, i) == format::rule_p(x, r))
-            & (format::rule_q(x, i) == format::rule_q(x, r)),
+        Property::Pair(r) => same_pair(x, r, i),
         Property::Layer(l) => format::rule_layer(x, i) == (l as usize),
         Property::Weight(l) => 1000000 < format::layer_weight(x, z.states, l, i),
     }
@@ -174,19 +191,33 @@ fn rule_repeats(rules: &[u8], z: Sizes, marked: bool, r: u16) -> bool
     false
 }
 
-// Test 7: the first rule that has the before pair of an earlier one, or the number of rules. The pairs met so far are marked, p and q modulo 64, so that only a pair that is marked is searched for.
+// Where rule r is marked: rules with the same before pair have the same row and column.
+fn mark_row(rules: &[u8], r: u16) -> usize
+    ensures { λ k. ⌜ Value 64 (rowOf (now (rules .entry)) r) k ⌝ }
+{
+    format::rule_p(rules, r) % 64
+}
+
+fn mark_column(rules: &[u8], r: u16) -> usize
+    ensures { λ k. ⌜ Value 64 (columnOf (now (rules .entry)) r) k ⌝ }
+{
+    format::rule_q(rules, r) % 64
+}
+
+// Test 7: the first rule that has the before pair of an earlier one, or the number of rules.
+// The rules met so far are marked, so that only for one whose mark is set already there is a search.
 fn repeat_fault(rules: &[u8], z: Sizes) -> u16
     ensures { λ i. ⌜ i ≡ firstBelow (z .rules) (repeats (now (rules .entry))) ⌝ }
 {
     let mut marks: [u64; 64] = [0; 64];
     let mut i: u16 = 0;
     while i < z.rules {
-        let p = format::rule_p(rules, i) % 64;
-        let q = format::rule_q(rules, i) % 64;
-        if rule_repeats(rules, z, bits::has(marks[p], q), i) {
+        let row = mark_row(rules, i);
+        let column = mark_column(rules, i);
+        if rule_repeats(rules, z, bits::has(marks[row], column), i) {
             return i;
         }
-        marks[p] = bits::union(marks[p], bits::single(q));
+        marks[row] = bits::with_if(marks[row], true, column);
         i += 1;
     }
     i
@@ -216,6 +247,7 @@ fn layer_used(rules: &[u8], z: Sizes, used: u64, l: u16) -> bool
     first(rules, z, Property::Layer(l), z.rules) < z.rules
 }
 
+// Test 8 of layer l, by the set of the layers below 64 that have a rule.
 fn layer_bad(rules: &[u8], layers: &[u8], z: Sizes, used: u64, l: u16) -> bool
     requires { ⌜ member used ≡ usedBelow (now rules) (z .rules) ⌝ }
     ensures { λ t. ⌜ t ≡ badLayer z (now (rules .entry)) (now (layers .entry)) l ⌝ }
@@ -239,41 +271,42 @@ fn layer_fault(rules: &[u8], layers: &[u8], z: Sizes) -> u16
 }
 
 // Tests 5 to 8.
-pub fn part_tests(states: &[u8], rules: &[u8], layers: &[u8], z: Sizes) -> Outcome
-    ensures { λ r. ⌜ r ≡ partOutcome z (now (states .entry)) (now (rules .entry)) (now (layers .entry)) ⌝ }
+pub fn section_tests(states: &[u8], rules: &[u8], layers: &[u8], z: Sizes) -> Tested
+    ensures { λ r. ⌜ r ≡ testedOf z (now (states .entry)) (now (rules .entry)) (now (layers .entry)) ⌝ }
 {
     let place = state_fault(states, z);
     if place < (z.states as u32) + 1 {
-        return Outcome::Failed { number: 5, place };
+        return Tested::Failed(Refusal { number: 5, place });
     }
     let r = first(rules, z, Property::Rule, z.rules);
     if r < z.rules {
         let place = r as u32;
-        return Outcome::Failed { number: 6, place };
+        return Tested::Failed(Refusal { number: 6, place });
     }
     let q = repeat_fault(rules, z);
     if q < z.rules {
         let place = q as u32;
-        return Outcome::Failed { number: 7, place };
+        return Tested::Failed(Refusal { number: 7, place });
     }
     let l = layer_fault(rules, layers, z);
     if l < z.layers {
         let place = l as u32;
-        return Outcome::Failed { number: 8, place };
+        return Tested::Failed(Refusal { number: 8, place });
     }
-    Outcome::Passed
+    Tested::Passed
 }
 
-// The outcome as a shape with header h.
-fn shape_with(h: Header, o: Outcome) -> Shape
+// What the tests of the sections find, as a shape with header h.
+fn shape_with(h: Header, o: Tested) -> Shape
     ensures { λ r. ⌜ r ≡ asShape h o ⌝ }
 {
     match o {
-        Outcome::Passed => Shape::Sound(h),
-        Outcome::Failed { number, place } => Shape::Refused { number, place },
+        Tested::Passed => Shape::Sound(h),
+        Tested::Failed(r) => Shape::Refused(r),
     }
 }
 
+// Test 1.
 fn length_fault(b: &[u8], h: Header) -> bool
     ensures { λ t. ⌜ t ≡ (ltb (length (now (b .entry))) 24 || not (eqb (length (now (b .entry))) (h .at .total))) ⌝ }
 {
@@ -285,33 +318,33 @@ fn header_shape(b: &[u8], h: Header) -> Shape
     ensures { λ r. ⌜ r ≡ headerShape (now (b .entry)) h ⌝ }
 {
     if length_fault(b, h) {
-        return Shape::Refused {
+        return Shape::Refused(Refusal {
             number: 1,
             place: 0,
-        };
+        });
     }
-    let unknown = h.version != 1;
+    let unknown = h.sizes.version != 1;
     if unknown {
-        return Shape::Refused {
+        return Shape::Refused(Refusal {
             number: 2,
             place: 0,
-        };
+        });
     }
     let place = count_fault(h.sizes);
     if place < 5 {
-        return Shape::Refused { number: 3, place };
+        return Shape::Refused(Refusal { number: 3, place });
     }
     let place = offset_fault(h);
     if place < 6 {
-        return Shape::Refused { number: 4, place };
+        return Shape::Refused(Refusal { number: 4, place });
     }
-    let parts = part_tests(
-        format::states_part(b, h),
-        format::rules_part(b, h),
-        format::layers_part(b, h),
+    let tested = section_tests(
+        format::states_section(b, h),
+        format::rules_section(b, h),
+        format::layers_section(b, h),
         h.sizes,
     );
-    shape_with(h, parts)
+    shape_with(h, tested)
 }
 
 // Tests 1 to 8.
@@ -321,21 +354,15 @@ pub fn read_shape(b: &[u8]) -> Shape
     header_shape(b, format::read_header(b))
 }
 
-// The number and the place of a refused shape; 0 for a sound one.
-pub fn number_of(s: Shape) -> u32
-    ensures { λ n. ⌜ n ≡ numberOf s ⌝ }
+// The refusal of a refused shape; 0, 0 for a sound one.
+pub fn refusal_of(s: Shape) -> Refusal
+    ensures { λ r. ⌜ r ≡ refusalOf s ⌝ }
 {
     match s {
-        Shape::Sound(_) => 0,
-        Shape::Refused { number, place: _ } => number,
-    }
-}
-
-pub fn place_of(s: Shape) -> u32
-    ensures { λ k. ⌜ k ≡ placeOf s ⌝ }
-{
-    match s {
-        Shape::Sound(_) => 0,
-        Shape::Refused { number: _, place } => place,
+        Shape::Sound(_) => Refusal {
+            number: 0,
+            place: 0,
+        },
+        Shape::Refused(r) => r,
     }
 }

@@ -1,9 +1,13 @@
--- Tests, sums, extremes and tables over the numbers below a bound.
+-- Tests, sums and extremes over the numbers below a bound.
+use mathlib.Core.Path.{_≡_}
 use mathlib.Core.Bool.{Bool, true, false, _&&_, _||_}
-use mathlib.Core.List.{List, [], _∷_}
-use Prim.Native.Nat.{ℕ, zero, suc, _+_, min, max}
+use Prim.Native.Nat.{ℕ, zero, suc, _+_, _<_, min, max}
 pub mod Laws
 pub mod Scan
+
+-- No number below i passes.
+abbrev pub Clear : (ℕ → Bool) → ℕ → Type 0
+Clear f i = (k : ℕ) → k < i → f k ≡ false
 
 -- Whether every number below n passes.
 unfoldable pub allBelow : ℕ → (ℕ → Bool) → Bool
@@ -34,8 +38,3 @@ least (suc n) f = min (least n f) (f n)
 unfoldable pub greatest : ℕ → (ℕ → ℕ) → ℕ
 greatest zero f = f 0
 greatest (suc n) f = max (greatest n f) (f n)
-
--- The list f 0, .., f (n - 1).
-unfoldable pub table : ℕ → (ℕ → ℕ) → List ℕ
-table zero f = []
-table (suc n) f = f 0 ∷ table n (λ k. f (suc k))

@@ -1,11 +1,13 @@
--- The facts that a tree of arguments gathers (document 01, "The tree"). Party 0 is the start, party k > 0 is run k with its end.
+-- The facts that a tree of arguments gathers (document 01, "The tree"). Party 0 is the start, party k > 0 is run k with
+-- its end.
 use mathlib.Core.Bool.{Bool, false, not, _&&_, _||_}
 use Prim.Native.Nat.{ℕ}
 use lib.Dec.{ltb, eqb}
 use Rattle.theory.specs.Protocol.{Protocol}
 pub mod Laws
 
--- absent k s, present k s, atMostOne k s: state s holds no agent at party k, at least one, at most one. unused k r: rule r makes no meeting in run k.
+-- absent k s, present k s, atMostOne k s: state s holds no agent at party k, at least one, at most one. unused k r: rule
+-- r makes no meeting in run k.
 pub record Facts : Type 0 where
   pub absent : ℕ → ℕ → Bool
   pub present : ℕ → ℕ → Bool

@@ -1,15 +1,22 @@
--- The leaf rule of document 01, "The tree", in natural numbers.
--- A weight y of the file, -10,000 to 10,000, is biased: w = y + 10,000; the sum of two weights is biased by 20,000. A difference of natural numbers is 0 where it would be negative, so of w - b and b - w one is 0.
--- The lower sum is surpluses - shortfalls: a weight of 0 or more adds w - 10,000, its surplus, where the state is present at the end; a negative one takes off 10,000 - w, its shortfall.
--- The upper sum is - spares: y1 + y2, which is at most 0, takes off its spare where the state is present at the start. So the lower sum exceeds the upper just when shortfalls < surpluses + spares.
-use mathlib.Core.Bool.{Bool, not, _&&_, _||_}
-use Prim.Native.Nat.{ℕ, _+_, _-_, _*_}
+-- The leaf rule of document 01, "The tree": in natural numbers, as trees use it, and below in signed numbers, word by
+-- word. That the two are one is proved (Theorems, leaf-is).
+-- A weight y is biased: w = y + 10,000; the sum of two is biased by 20,000. A difference of natural numbers is 0 where it
+-- would be negative, so of w - b and b - w one is 0.
+-- The lower sum is surpluses - shortfalls, the upper sum is - spares: the lower exceeds the upper just when shortfalls <
+-- surpluses + spares.
+use mathlib.Core.Path.{_≡_}
+use mathlib.Core.Bool.{Bool, true, false, not, cond, _&&_, _||_}
+use Prim.Native.Nat.{ℕ, zero, suc, _+_, _-_, _*_, _≤_, _<_}
 use lib.Dec.{leb, ltb}
-use Rattle.theory.specs.Test.{bit}
+use lib.IntN.{ℤ, pos, _+ℤ_, _-ℤ_}
+use lib.Signed.{ltZ, _≤ℤ_, _<ℤ_}
+use Rattle.theory.specs.Bool.{bit}
 use Rattle.theory.specs.Below.{allBelow, sumBelow}
 use Rattle.theory.specs.Protocol.{Protocol}
 use Rattle.theory.specs.Facts.{Facts}
+pub mod Tests
 pub mod Laws
+pub mod Signed
 
 module _ (P : Protocol) where
   -- The sum of f over the states.
@@ -52,3 +59,35 @@ module _ (P : Protocol) where
         && ltb
         (total (shortfall 1 10000 (w 1)) + total (shortfall 2 10000 (w 2)))
         (total (surplus 1 10000 (w 1)) + total (surplus 2 10000 (w 2)) + total (spare 20000 (λ s. w 1 s + w 2 s)))
+
+-- ---- The leaf rule in signed numbers, word by word as document 01 has it
+
+-- The signed weight y of a biased one.
+abbrev pub signed : ℕ → ℤ
+signed w = pos w -ℤ pos 10000
+
+-- The sum f 0 + .. + f (n - 1).
+unfoldable pub signedSum : ℕ → (ℕ → ℤ) → ℤ
+signedSum zero f = pos 0
+signedSum (suc n) f = signedSum n f +ℤ f n
+
+-- y k s is the weight of state s at end k.
+module _ (P : Protocol) (F : Facts) (y : ℕ → ℕ → ℤ) where
+  -- The upper sum: y1 + y2 of the states not absent at the start, where the state is present.
+  unfoldable pub upperSum : ℤ
+  upperSum = signedSum (P .states) (λ s. cond (not (F .absent 0 s) && F .present 0 s) (y 1 s +ℤ y 2 s) (pos 0))
+
+  -- What end k adds to the lower sum: of the states not absent there, a weight of 0 or more where the state is present,
+  -- and a negative weight.
+  unfoldable pub lowerSum : ℕ → ℤ
+  lowerSum k = signedSum (P .states) (λ s. cond (not (F .absent k s) && (F .present k s || ltZ (y k s) (pos 0))) (y k s) (pos 0))
+
+  pub record LeafRule : Type 0 where
+    -- For every rule not unused in run k, yk of the after pair is at most yk of the before pair.
+    pub rules : (k : ℕ) → 1 ≤ k → k ≤ 2 → (r : ℕ) → r < P .rules → F .unused k r ≡ false → (y k (P .p′ r) +ℤ y k (P .q′ r)) ≤ℤ (y k (P .p r) +ℤ y k (P .q r))
+    -- For every state not absent at the start, y1 + y2 is at most 0.
+    pub start : (s : ℕ) → s < P .states → F .absent 0 s ≡ false → (y 1 s +ℤ y 2 s) ≤ℤ pos 0
+    -- For each end k and each state not absent there, a negative weight needs at most one there.
+    pub ends : (k : ℕ) → 1 ≤ k → k ≤ 2 → (s : ℕ) → s < P .states → F .absent k s ≡ false → y k s <ℤ pos 0 → F .atMostOne k s ≡ true
+    -- The lower sum exceeds the upper sum.
+    pub sums : upperSum <ℤ (lowerSum 1 +ℤ lowerSum 2)

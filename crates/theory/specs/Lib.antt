@@ -1,6 +1,8 @@
--- Definitions stand in specs/X.antt, their laws in specs/X/, computed cases of them in specs/Cases/X.antt. What is proved in the end is in Claims.
-pub mod Test
+-- Definitions stand in specs/X.antt, their laws in specs/X/, computed cases of them in specs/Cases/X.antt. What is proved
+-- in the end is in Claims.
+pub mod Bool
 pub mod Below
+pub mod Judge
 pub mod Weigh
 pub mod Protocol
 pub mod Ladder
@@ -10,4 +12,5 @@ pub mod Tree
 pub mod Potential
 pub mod Machine
 pub mod Claims
+pub mod Unfold
 pub mod Cases

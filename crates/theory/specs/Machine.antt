@@ -1,4 +1,5 @@
--- The machine's step and run calls on the counts of one configuration, and lists of them (document 01, "What a call says" and "Demand 3 over lists").
+-- The machine's step and run calls on the counts of one configuration, and lists of them (document 01, "What a call says"
+-- and "Demand 3 over lists").
 use mathlib.Core.Bool.{Bool, true, false, cond, _&&_}
 use mathlib.Core.List.{List, [], _∷_, _++_}
 use Prim.Native.Nat.{ℕ, zero, suc, _+_}
@@ -6,7 +7,8 @@ use lib.ListN.{length}
 use lib.Dec.{leb, ltb, eqb}
 use Rattle.theory.specs.Below.{firstBelow}
 use Rattle.theory.specs.Protocol.{Protocol, size, enabled, fire, terminal, after}
-use Rattle.theory.specs.Ladder.{enabledIn, lowest}
+use Rattle.theory.specs.Ladder.{Layers, enabledIn, lowest}
+pub mod Lists
 pub mod Laws
 
 -- A step names a rule number, a run its limit.
@@ -14,7 +16,8 @@ pub data Call : Type 0 where
   step : ℕ → Call
   run : ℕ → Call
 
--- What a call says: stepped, the step makes its meeting; ran, the run's steps and whether it rests; refused, the number and the place.
+-- What a call says: stepped, the step makes its meeting; ran, the run's steps and whether it rests; refused, the number
+-- and the place.
 pub data Reply : Type 0 where
   stepped : Reply
   ran : ℕ → Bool → Reply
@@ -32,14 +35,14 @@ meetingsOf stepped = 1
 meetingsOf (ran n rests) = n
 meetingsOf (refused n place) = 0
 
+-- Whether the size is 2 to 1,000,000 (else refusal 21).
+unfoldable pub isWithin : List ℕ → Bool
+isWithin c = leb 2 (size c) && leb (size c) 1000000
+
 module _ (P : Protocol) where
   -- Whether there is a count for each state (else refusal 20).
   unfoldable pub isSized : List ℕ → Bool
   isSized c = eqb (length c) (P .states)
-
-  -- Whether the size is 2 to 1,000,000 (else refusal 21).
-  unfoldable pub isWithin : List ℕ → Bool
-  isWithin c = leb 2 (size c) && leb (size c) 1000000
 
   -- Whether counts pass 20 and 21.
   unfoldable pub admitted : List ℕ → Bool
@@ -49,18 +52,21 @@ module _ (P : Protocol) where
   unfoldable pub admit : {A : Type 0} → List ℕ → (ℕ → A) → A → A
   admit c refuse x = cond (isSized c) (cond (isWithin c) x (refuse 21)) (refuse 20)
 
-  -- The rule that a run uses at c, where c is not terminal: the lowest rule number of the lowest layer that has an enabled rule.
+  -- What a step says of counts that pass: 23 where its number names no rule, 24 where the rule is not enabled. The place
+  -- of both is the number given.
+  unfoldable pub stepReply : List ℕ → ℕ → Reply
+  stepReply c r = cond (ltb r (P .rules)) (cond (enabled P c r) stepped (refused 24 r)) (refused 23 r)
+
+module _ (P : Protocol) (L : Layers) where
+  -- The rule that a run uses at c, where c is not terminal: the lowest rule number of the lowest layer that has an
+  -- enabled rule.
   unfoldable pub chosen : List ℕ → ℕ
-  chosen c = firstBelow (P .rules) (enabledIn P c (lowest P c))
+  chosen c = firstBelow (P .rules) (enabledIn P L c (lowest P L c))
 
   -- The rule numbers that a run uses from c: it stops at its limit, or before it where c is terminal.
   unfoldable pub runNumbers : ℕ → List ℕ → List ℕ
   runNumbers zero c = []
   runNumbers (suc limit) c = elim (terminal P c) [ true ↦ [] | false ↦ chosen c ∷ runNumbers limit (fire P c (chosen c)) ]
-
-  -- What a step says of counts that pass: 23 where its number names no rule, 24 where the rule is not enabled. The place of both is the number given.
-  unfoldable pub stepReply : List ℕ → ℕ → Reply
-  stepReply c r = cond (ltb r (P .rules)) (cond (enabled P c r) stepped (refused 24 r)) (refused 23 r)
 
   -- What a run says of counts that pass.
   unfoldable pub runReply : List ℕ → ℕ → Reply
@@ -68,29 +74,19 @@ module _ (P : Protocol) where
 
   -- What a call says.
   unfoldable pub reply : List ℕ → Call → Reply
-  reply c (step r) = admit c (λ n. refused n 0) (stepReply c r)
-  reply c (run limit) = admit c (λ n. refused n 0) (runReply c limit)
+  reply c (step r) = admit P c (λ n. refused n 0) (stepReply P c r)
+  reply c (run limit) = admit P c (λ n. refused n 0) (runReply c limit)
 
   -- The rule numbers that a call tries: none on counts that do not pass.
   unfoldable pub adds : List ℕ → Call → List ℕ
-  adds c (step r) = cond (admitted c) (r ∷ []) []
-  adds c (run limit) = cond (admitted c) (runNumbers limit c) []
+  adds c (step r) = cond (admitted P c) (r ∷ []) []
+  adds c (run limit) = cond (admitted P c) (runNumbers limit c) []
 
   -- The counts that a call leaves.
   unfoldable pub countsAfter : List ℕ → Call → List ℕ
   countsAfter c x = after P c (adds c x)
 
-  -- The counts that a list of calls leaves, each call on the counts that the one before it leaves.
-  unfoldable pub lastCounts : List ℕ → List Call → List ℕ
-  lastCounts c [] = c
-  lastCounts c (x ∷ xs) = lastCounts (countsAfter c x) xs
-
   -- The list of rule numbers that the calls make.
   unfoldable pub numbersOf : List ℕ → List Call → List ℕ
   numbersOf c [] = []
   numbersOf c (x ∷ xs) = adds c x ++ numbersOf (countsAfter c x) xs
-
-  -- The meetings that a list of calls reports: the steps not refused plus the totals that the runs return.
-  unfoldable pub reported : List ℕ → List Call → ℕ
-  reported c [] = 0
-  reported c (x ∷ xs) = meetingsOf (reply c x) + reported (countsAfter c x) xs

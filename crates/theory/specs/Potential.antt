@@ -1,15 +1,16 @@
 -- Potential reachability (the paper, Section 4.2): what flow, traps and siphons leave possible.
 use mathlib.Core.Path.{_≡_}
-use mathlib.Core.Bool.{Bool, true, false, _&&_}
-use mathlib.Core.List.{List, [], _∷_}
+use mathlib.Core.Bool.{Bool, true, false}
+use mathlib.Core.List.{List}
 use Prim.Native.Nat.{ℕ, _+_, _*_, _<_}
 use lib.ListN.{length}
 use lib.Dec.{eqb}
-use Rattle.theory.specs.Test.{bit}
+use Rattle.theory.specs.Bool.{bit}
 use Rattle.theory.specs.Below.{sumBelow}
 use Rattle.theory.specs.Weigh.{weigh}
-use Rattle.theory.specs.Protocol.{Protocol, count, pre, post, fires, tried}
+use Rattle.theory.specs.Protocol.{Protocol, count, pre, post}
 use Rattle.theory.specs.Tree.{takes, puts, isTrap, isSiphon}
+pub mod Runs
 pub mod Laws
 pub mod Reached
 
@@ -18,8 +19,10 @@ abbrev pub countIn : (ℕ → Bool) → List ℕ → ℕ
 countIn A c = weigh (λ s. bit (A s)) c
 
 module _ (P : Protocol) where
-  -- Definition 4.9: the configuration d is potentially reachable from c through x, which says how often each rule fires. U is the set of the rules that fire.
-  -- The paper has silent transitions besides, from a pair to itself. One more in U leaves (a) and the U-traps and U-siphons as they are, and only adds to (b) and (c): so the relation is the same without them.
+  -- Definition 4.9: the configuration d is potentially reachable from c through x, which says how often each rule fires.
+  -- U is the set of the rules that fire.
+  -- The paper has silent transitions besides, from a pair to itself. One more in U leaves (a) and the U-traps and
+  -- U-siphons as they are, and only adds to (b) and (c): so the relation is the same without them.
   pub record Potential (x : ℕ → ℕ) (c d : List ℕ) : Type 0 where
     pub sized : length d ≡ P .states
     -- (a) The flow equation of every state.
@@ -28,14 +31,3 @@ module _ (P : Protocol) where
     pub traps : (A : ℕ → Bool) → isTrap P (λ r. eqb (x r) 0) A ≡ true → countIn A d ≡ 0 → (r : ℕ) → r < P .rules → 0 < x r → puts P A r ≡ false
     -- (c) No rule of U takes from a U-siphon that is empty at c.
     pub siphons : (A : ℕ → Bool) → isSiphon P (λ r. eqb (x r) 0) A ≡ true → countIn A c ≡ 0 → (r : ℕ) → r < P .rules → 0 < x r → takes P A r ≡ false
-
-  -- A configuration that is potentially reachable from c, and through what: all that a tree needs of a run.
-  pub record Reach (c : List ℕ) : Type 0 where
-    pub end : List ℕ
-    pub through : ℕ → ℕ
-    pub potential : Potential through c end
-
-  -- How often rule r fires in a list of rule numbers tried from c (the paper: the Parikh vector of the sequence).
-  unfoldable pub parikh : List ℕ → List ℕ → ℕ → ℕ
-  parikh c [] r = 0
-  parikh c (i ∷ is) r = bit (fires P c i && eqb i r) + parikh (tried P c i) is r

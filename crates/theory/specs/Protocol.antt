@@ -1,31 +1,30 @@
--- Population protocols (Blondin, Esparza, Jaax and Meyer, PODC 2017, Section 2), with the layers and weights of a ladder: document 01, "Meetings and standstill".
+-- Population protocols (Blondin, Esparza, Jaax and Meyer, PODC 2017, Section 2): document 01, "Meetings and standstill".
 use mathlib.Core.Path.{_≡_}
 use mathlib.Core.Bool.{Bool, true, false, not, cond, _&&_, Bool·beq}
 use mathlib.Core.List.{List, [], _∷_}
 use Prim.Native.Nat.{ℕ, _+_, _-_, _≤_, _<_}
 use lib.ListN.{length, getD, set}
 use lib.Dec.{ltb, eqb}
-use Rattle.theory.specs.Test.{imp, bit}
+use Rattle.theory.specs.Bool.{imp, bit}
 use Rattle.theory.specs.Below.{allBelow, firstBelow}
 use Rattle.theory.specs.Weigh.{weigh}
 pub mod Laws
 pub mod Lists
 
--- Rule r < rules takes one agent from each of p r, q r (document 01: the before pair) and puts one into each of p′ r, q′ r (the after pair). weight k s is layer k's weight of state s.
+-- Rule r < rules takes one agent from each of p r, q r (document 01: the before pair) and puts one into each of p′ r, q′
+-- r (the after pair).
 pub record Protocol : Type 0 where
   pub states : ℕ
   pub rules : ℕ
-  pub layers : ℕ
   pub p : ℕ → ℕ
   pub q : ℕ → ℕ
   pub p′ : ℕ → ℕ
   pub q′ : ℕ → ℕ
-  pub layer : ℕ → ℕ
-  pub weight : ℕ → ℕ → ℕ
   pub output : ℕ → Bool
   pub input : ℕ → Bool
 
--- What tests 5, 6 and 8 say of a protocol: every rule names states and a layer of the protocol, its pairs are in order and differ, some state is an input, and every layer has a rule. That before pairs differ from each other (test 7) and weights have a limit (test 8) is not needed.
+-- What tests 5 and 6 say of a protocol: every rule names states, its pairs are in order and differ, and some state is an
+-- input. That before pairs differ from each other (test 7) is not needed.
 pub record WellFormed (P : Protocol) : Type 0 where
   pub p-lt : (r : ℕ) → r < P .rules → P .p r < P .states
   pub q-lt : (r : ℕ) → r < P .rules → P .q r < P .states
@@ -34,8 +33,6 @@ pub record WellFormed (P : Protocol) : Type 0 where
   pub pre-ordered : (r : ℕ) → r < P .rules → P .p r ≤ P .q r
   pub post-ordered : (r : ℕ) → r < P .rules → P .p′ r ≤ P .q′ r
   pub pairs-differ : (r : ℕ) → r < P .rules → P .p r ≡ P .p′ r → P .q r ≡ P .q′ r → ⊥
-  pub layer-lt : (r : ℕ) → r < P .rules → P .layer r < P .layers
-  pub layer-has-rule : (k : ℕ) → k < P .layers → (r : ℕ) × (r < P .rules) × (P .layer r ≡ k)
   pub some-input : (s : ℕ) × (s < P .states) × (P .input s ≡ true)
 
 -- What a configuration shows: one output, 0 (false) or 1 (true), in all its occupied states; or both.
@@ -102,7 +99,8 @@ module _ (P : Protocol) where
   unfoldable pub unfit : List ℕ → ℕ → Bool
   unfit c s = not (P .input s) && ltb 0 (count c s)
 
-  -- The start test: the lowest state that is no input and holds an agent (the place of refusal 22), or `states` where there is none.
+  -- The start test: the lowest state that is no input and holds an agent (the place of refusal 22), or `states` where
+  -- there is none.
   unfoldable pub startTest : List ℕ → ℕ
   startTest c = firstBelow (P .states) (unfit c)
 

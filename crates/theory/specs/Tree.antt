@@ -1,11 +1,11 @@
 -- The tree of arguments of document 01, "The tree": traps and siphons, nodes with their grounds and children, and the walk.
-use mathlib.Core.Bool.{Bool, true, false, _&&_, _||_, Bool·beq}
+use mathlib.Core.Bool.{Bool, true, false, cond, _&&_, _||_, Bool·beq}
 use mathlib.Core.List.{List, [], _∷_}
-use Prim.Native.Nat.{ℕ, zero, suc, _^_}
+use Prim.Native.Nat.{ℕ, zero, suc, _^_, max}
 use lib.ListN.{getD}
 use lib.Dec.{leb, ltb, eqb}
-use Rattle.theory.specs.Test.{imp, member}
-use Rattle.theory.specs.Below.{allBelow}
+use Rattle.theory.specs.Bool.{imp, bit, member}
+use Rattle.theory.specs.Below.{allBelow, sumBelow}
 use Rattle.theory.specs.Protocol.{Protocol}
 use Rattle.theory.specs.Facts.{Facts, withAbsent, withPresent, withAtMostOne, withUnused, fresh}
 use Rattle.theory.specs.Leaf.{leafCloses}
@@ -22,7 +22,21 @@ pub record Tree : Type 0 where
   pub argument : ℕ → ℕ
   pub set : ℕ → ℕ
 
--- What a tree refutes: so many runs from one start, each of which ends at a terminal configuration that holds a state of the output assumed for it. closes says which leaves close on which facts.
+-- How many states a 64-bit set names.
+unfoldable pub setSize : ℕ → ℕ
+setSize w = sumBelow 64 (λ s. bit (member w s))
+
+-- The size of the widest set that a node of kind 5 or 6 among the first n names, 0 where none does.
+unfoldable pub widestBelow : Tree → ℕ → ℕ
+widestBelow T zero = 0
+widestBelow T (suc n) = max (widestBelow T n) (cond (eqb (T .kind n) 5 || eqb (T .kind n) 6) (setSize (T .set n)) 0)
+
+-- M: how many states the widest set of the tree names, 0 where there is none.
+unfoldable pub widest : Tree → ℕ
+widest T = widestBelow T (T .nodes)
+
+-- What a tree refutes: so many runs from one start, each of which ends at a terminal configuration that holds a state of
+-- the output assumed for it. closes says which leaves close on which facts.
 pub record Assumption : Type 0 where
   pub runs : ℕ
   pub assumed : ℕ → Bool
@@ -47,9 +61,9 @@ pub data Node : Type 0 where
   bad : Node
 
 -- The number of the node at which the walk goes on, or a refusal's number and place.
-pub data Answer : Type 0 where
-  next : ℕ → Answer
-  refused : ℕ → ℕ → Answer
+pub data Walked : Type 0 where
+  next : ℕ → Walked
+  refused : ℕ → ℕ → Walked
 
 -- The node n where its fields pass their test b, else bad.
 unfoldable pub checked : Bool → Node → Node
@@ -68,7 +82,7 @@ refusalNumber (siphon k w) = 13
 refusalNumber bad = 12
 
 -- Children in preorder, each on its own facts; t walks one child.
-unfoldable pub forest : (Facts → ℕ → Answer) → List Facts → ℕ → Answer
+unfoldable pub forest : (Facts → ℕ → Walked) → List Facts → ℕ → Walked
 forest t [] i = next i
 forest t (F ∷ Fs) i = elim (t F i) [ next j ↦ forest t Fs j | refused n j ↦ refused n j ]
 
@@ -89,7 +103,8 @@ module _ (P : Protocol) where
   unfoldable pub follows : (ℕ → Bool) → (ℕ → Bool) → (ℕ → Bool) → Bool
   follows unused f g = allBelow (P .rules) (λ r. unused r || imp (f r) (g r))
 
-  -- Whether the set A is a trap (the paper: a U-trap, U being the rules not unused): each rule not unused that takes from A puts into it.
+  -- Whether the set A is a trap (the paper: a U-trap, U being the rules not unused): each rule not unused that takes from
+  -- A puts into it.
   unfoldable pub isTrap : (ℕ → Bool) → (ℕ → Bool) → Bool
   isTrap unused A = follows unused (takes A) (puts A)
 
@@ -120,7 +135,8 @@ module _ (P : Protocol) where
   children F (siphon k w) = withUnused (withAbsent F k (member w)) k (touches (member w)) ∷ []
   children F bad = []
 
-  -- What the tree of a docket refutes: run 1 ends with a state of output 0 and run 2 with one of output 1. weights l k s is the biased weight of leaf l at end k.
+  -- What the tree of a docket refutes: run 1 ends with a state of output 0 and run 2 with one of output 1. weights l k s
+  -- is the biased weight of leaf l at end k.
   unfoldable pub disagreement : (ℕ → ℕ → ℕ → ℕ) → Assumption
   disagreement weights = record { runs = 2; assumed = λ k. eqb k 2; closes = λ F l. leafCloses P F (weights l) }
 
@@ -158,7 +174,7 @@ module _ (P : Protocol) (H : Assumption) where
     node i = getD (byKind (T .party i) (T .argument i) (T .set i)) (T .kind i) bad
 
     -- The walk of the subtree at node i, which may be so many nodes deep: the number of the node behind it, or the refusal.
-    unfoldable pub treeAt : ℕ → Facts → ℕ → Answer
+    unfoldable pub treeAt : ℕ → Facts → ℕ → Walked
     treeAt zero F i = refused 12 i
     treeAt (suc d) F i =
         elim (ltb i (T .nodes)) [
@@ -167,7 +183,7 @@ module _ (P : Protocol) (H : Assumption) where
         ]
 
     -- The whole tree, to depth 40; a node left over is refused. The answer next means accepted: it is next (T .nodes).
-    unfoldable pub treeAnswer : Answer
+    unfoldable pub treeAnswer : Walked
     treeAnswer =
         elim (treeAt 40 (fresh P) 0) [
           | next j ↦ elim (eqb j (T .nodes)) [ true ↦ next j | false ↦ refused 12 j ]

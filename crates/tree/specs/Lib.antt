@@ -1,3 +1,4 @@
--- Definitions stand in Tree, their laws in Tree.Laws, samples in Samples.
-pub mod Tree
+-- Code: what the functions on a tree answer. Code/Laws: what the functions and their callers need.
+-- Samples: computed cases.
+pub mod Code
 pub mod Samples

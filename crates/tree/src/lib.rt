@@ -1,75 +1,117 @@
 // The walk of a tree in preorder, tests 12 and 13, and the width of its sets.
+// A function is lent a section where its contract speaks of the protocol.
 ghost use mathlib.Core.Path.{_≡_};
-ghost use mathlib.Core.List.{[]};
-ghost use Prim.Native.Nat.{max};
-ghost use Rattle.facts.specs.Facts.{factsOf};
-ghost use Rattle.node.specs.Node.{SoundRules};
-ghost use Rattle.tree.specs.Tree.{answerOf, walkOf, treeAnswerOf, widestOf};
-use counts::Flag;
+ghost use Prim.Native.Nat.{_≤_, max};
+ghost use Rattle.theory.specs.Facts.{fresh};
+ghost use Rattle.theory.specs.Tree.{refused, disagreement, treeAt, treeAnswer, widest as widestOf};
+ghost use Rattle.format.specs.Format.{protocolOf, treeOf, weightsOf};
+ghost use Rattle.facts.specs.Code.{factsOf};
+ghost use Rattle.node.specs.Code.{assumptionOf, AimFits, SoundRules};
+ghost use Rattle.tree.specs.Code.{walkedOf, refusalOf, Disagrees, setSizeAt};
 use facts::Facts;
+use format::Flag;
 use format::Sizes;
+use node::Aim;
 use node::Outcome;
+use shape::Refusal;
 
-// Where a walk comes to: the next node, or a refusal with its number and place.
+// Where a walk comes to: the next node, or a refusal.
 pub enum Walk {
     Next(u16),
-    Refused { number: u32, place: u32 },
+    Refused(Refusal),
+}
+
+// The refusal of a refused walk; 0, 0 for another.
+pub fn refusal_of(w: Walk) -> Refusal
+    ensures { λ r. ⌜ r ≡ refusalOf w ⌝ }
+{
+    match w {
+        Walk::Next(_) => Refusal {
+            number: 0,
+            place: 0,
+        },
+        Walk::Refused(r) => r,
+    }
+}
+
+// A walk that is refused at a node.
+fn refuse(number: u32, i: u16) -> Walk
+    ensures { λ w. ⌜ walkedOf w ≡ refused number i ⌝ }
+{
+    let place = i as u32;
+    Walk::Refused(Refusal { number, place })
 }
 
 // Node i and all below it, on the facts, where the nodes may be so many deep.
 fn descend(
+    states: &[u8],
     rules: &[u8],
     nodes: &[u8],
     leaves: &[u8],
     z: Sizes,
-    outputs: u64,
+    aim: Aim,
     left: u16,
     facts: Facts,
     i: u16,
 ) -> Walk
     requires { ⌜ SoundRules z (now rules) ⌝ }
-    ensures { λ r. ⌜ answerOf r ≡ walkOf z (now (rules .entry)) (now (nodes .entry)) (now (leaves .entry)) outputs left (factsOf facts) i ⌝ }
+    requires { ⌜ AimFits z (now states) aim ⌝ }
+    ensures { λ w. ⌜ walkedOf w ≡ treeAt (protocolOf z (now (states .entry)) (now (rules .entry)))
+        (assumptionOf (protocolOf z (now (states .entry)) (now (rules .entry))) (weightsOf z (now (leaves .entry))) aim)
+        (treeOf z (now (nodes .entry))) left (factsOf facts) i ⌝ }
 {
     if left < 1 {
-        let place = i as u32;
-        return Walk::Refused { number: 12, place };
+        return refuse(12, i);
     }
     if z.nodes <= i {
-        let place = z.nodes as u32;
-        return Walk::Refused { number: 12, place };
+        return refuse(12, z.nodes);
     }
-    let step = node::node_step(rules, nodes, leaves, z, outputs, facts, i);
+    let step = node::node_step(states, rules, nodes, leaves, z, aim, facts, i);
     let outcome = step.outcome;
     let first = step.first;
     let second = step.second;
     let next = i + 1;
     let rest = left - 1;
     match outcome {
-        Outcome::Refused(number) => {
-            let place = i as u32;
-            Walk::Refused { number, place }
-        }
+        Outcome::Refused(number) => refuse(number, i),
         Outcome::Closed => Walk::Next(next),
-        Outcome::Child => descend(rules, nodes, leaves, z, outputs, rest, first, next),
+        Outcome::Child => descend(states, rules, nodes, leaves, z, aim, rest, first, next),
         Outcome::Children => {
-            let below = descend(rules, nodes, leaves, z, outputs, rest, first, next);
+            let below = descend(states, rules, nodes, leaves, z, aim, rest, first, next);
             let Walk::Next(j) = below else {
                 return below;
             };
-            descend(rules, nodes, leaves, z, outputs, rest, second, j)
+            descend(states, rules, nodes, leaves, z, aim, rest, second, j)
         }
     }
 }
 
-// The whole tree: accepted (Next), or the first refusal. A node left over is refused.
-pub fn check_tree(states: &[u8], rules: &[u8], nodes: &[u8], leaves: &[u8], z: Sizes) -> Walk
-    requires { ⌜ SoundRules z (now rules) ⌝ }
-    ensures { λ r. ⌜ answerOf r ≡ treeAnswerOf z (now (states .entry)) (now (rules .entry)) [] (now (nodes .entry)) (now (leaves .entry)) ⌝ }
+// The facts at the root: every state that is no input is absent at the start.
+fn root_facts(states: &[u8], rules: &[u8], z: Sizes) -> Facts
+    requires { ⌜ z .states ≤ 64 ⌝ }
+    ensures { λ f. ⌜ factsOf f ≡ fresh (protocolOf z (now (states .entry)) (now (rules .entry))) ⌝ }
 {
-    let inputs = counts::flag_set(states, z.states, Flag::Input);
-    let outputs = counts::flag_set(states, z.states, Flag::Output);
-    let facts = Facts::fresh(inputs, z.states);
-    let end = descend(rules, nodes, leaves, z, outputs, Facts::DEPTH, facts, 0);
+    let inputs = format::flag_set(states, z, Flag::Input);
+    Facts::fresh(inputs, z.states)
+}
+
+// The whole tree, which refutes what the aim assumes: accepted (Next), or the first refusal. A node left over is refused.
+pub fn walk_tree(
+    states: &[u8],
+    rules: &[u8],
+    nodes: &[u8],
+    leaves: &[u8],
+    z: Sizes,
+    aim: Aim,
+) -> Walk
+    requires { ⌜ SoundRules z (now rules) ⌝ }
+    requires { ⌜ AimFits z (now states) aim ⌝ }
+    ensures { λ w. ⌜ walkedOf w ≡ treeAnswer (protocolOf z (now (states .entry)) (now (rules .entry)))
+        (assumptionOf (protocolOf z (now (states .entry)) (now (rules .entry))) (weightsOf z (now (leaves .entry))) aim)
+        (treeOf z (now (nodes .entry))) ⌝ }
+{
+    let facts = root_facts(states, rules, z);
+    let end = descend(states, rules, nodes, leaves, z, aim, Facts::DEPTH, facts, 0);
     let Walk::Next(j) = end else {
         return end;
     };
@@ -77,24 +119,56 @@ pub fn check_tree(states: &[u8], rules: &[u8], nodes: &[u8], leaves: &[u8], z: S
     if whole {
         return Walk::Next(j);
     }
-    let place = j as u32;
-    Walk::Refused { number: 12, place }
+    refuse(12, j)
 }
 
-fn greater(a: u32, b: u32) -> u32
-    ensures { λ r. ⌜ r ≡ max a b ⌝ }
+// What the tree of a docket refutes: run 1 ends with a state of output 0, and run 2 with one of output 1.
+fn docket_aim(states: &[u8], z: Sizes) -> Aim
+    ensures { λ a. ⌜ Disagrees z (now (states .entry)) a ⌝ }
 {
-    if a < b { b } else { a }
+    let ones = format::flag_set(states, z, Flag::Output);
+    let all = bits::full(z.states as usize);
+    let zeros = bits::without(all, ones);
+    Aim {
+        runs: 2,
+        first: false,
+        second: true,
+        zeros,
+        ones,
+    }
+}
+
+// Tests 12 and 13: the whole tree of a docket.
+pub fn check_tree(states: &[u8], rules: &[u8], nodes: &[u8], leaves: &[u8], z: Sizes) -> Walk
+    requires { ⌜ SoundRules z (now rules) ⌝ }
+    ensures { λ w. ⌜ walkedOf w ≡ treeAnswer (protocolOf z (now (states .entry)) (now (rules .entry)))
+        (disagreement (protocolOf z (now (states .entry)) (now (rules .entry))) (weightsOf z (now (leaves .entry))))
+        (treeOf z (now (nodes .entry))) ⌝ }
+{
+    let aim = docket_aim(states, z);
+    walk_tree(states, rules, nodes, leaves, z, aim)
+}
+
+// How many states the set of node i names; 0 where its kind names none.
+fn set_size(nodes: &[u8], i: u16) -> u32
+    ensures { λ n. ⌜ n ≡ setSizeAt (now (nodes .entry)) i ⌝ }
+{
+    let kind = format::node_kind(nodes, i);
+    let names = (kind == 5) | (kind == 6);
+    if names {
+        return bits::size(format::node_set(nodes, i));
+    }
+    0
 }
 
 // M: how many states the widest set of the tree names.
 pub fn widest(nodes: &[u8], z: Sizes) -> u32
-    ensures { λ r. ⌜ r ≡ widestOf z (now (nodes .entry)) ⌝ }
+    ensures { λ r. ⌜ r ≡ widestOf (treeOf z (now (nodes .entry))) ⌝ }
 {
     let mut most: u32 = 0;
     let mut i: u16 = 0;
     while i < z.nodes {
-        most = greater(most, bits::size(format::node_set(nodes, i)));
+        most = format::greater(most, set_size(nodes, i));
         i += 1;
     }
     most

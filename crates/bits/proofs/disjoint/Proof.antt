@@ -1,5 +1,5 @@
 -- `a & b` has the members of both, and only 0 has no member.
-use Rattle.bits.specs.Word.Laws.{disjoint-is}
+use Rattle.bits.specs.Code.Laws.{disjoint-is}
 use Rattle.bits.proofs.disjoint.Statement.{statement}
 use Rattle.bits.proofs.disjoint.Tie as tie
 

@@ -2,7 +2,7 @@
 use native.Mathlib.Omega.{arith}
 use lib.Pow.{pow-pos}
 use borrow.Author.Needs.{needs}
-use Rattle.bits.specs.Word.Laws.{one-shl, full-is, full-all}
+use Rattle.bits.specs.Code.Laws.{one-shl, full-is, full-all}
 use Rattle.bits.proofs.full.Statement.{statement}
 use Rattle.bits.proofs.full.Tie as tie
 

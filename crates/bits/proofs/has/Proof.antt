@@ -1,8 +1,8 @@
 -- Bit i is the lowest digit of the word shifted by i, and no bit from 64 on is set.
 use mathlib.Core.Path.{sym}
 use borrow.Author.Needs.{needs}
-use Rattle.theory.specs.Test.{member}
-use Rattle.bits.specs.Word.Laws.{member-above}
+use Rattle.theory.specs.Bool.{member}
+use Rattle.bits.specs.Code.Laws.{member-above}
 use Rattle.bits.proofs.has.Statement.{statement}
 use Rattle.bits.proofs.has.Tie as tie
 

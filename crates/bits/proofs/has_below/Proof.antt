@@ -2,7 +2,7 @@
 use borrow.Author.Needs.{needs}
 use Rattle.bits.proofs.has_below.Statement.{statement}
 use Rattle.bits.proofs.has_below.Tie as tie
-use Rattle.theory.specs.Test.{member}
+use Rattle.theory.specs.Bool.{member}
 
 shr-result : tie.Need-shr-result
 shr-result c = search needs

@@ -1,5 +1,5 @@
 -- The count of the zeros below the lowest set digit is the number of that digit.
-use Rattle.bits.specs.Word.Laws.{lowest-is}
+use Rattle.bits.specs.Code.Laws.{lowest-is}
 use Rattle.bits.proofs.lowest.Statement.{statement}
 use Rattle.bits.proofs.lowest.Tie as tie
 

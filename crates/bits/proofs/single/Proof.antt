@@ -1,6 +1,6 @@
 -- `1 << i` is 2 ^ i, whose only member is i.
 use borrow.Author.Needs.{needs}
-use Rattle.bits.specs.Word.Laws.{single-is, single-none}
+use Rattle.bits.specs.Code.Laws.{single-is, single-none}
 use Rattle.bits.proofs.single.Statement.{statement}
 use Rattle.bits.proofs.single.Tie as tie
 

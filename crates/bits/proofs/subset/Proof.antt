@@ -1,5 +1,5 @@
 -- `a & b` has the members of both, so it is a where each member of a is one of b.
-use Rattle.bits.specs.Word.Laws.{subset-is}
+use Rattle.bits.specs.Code.Laws.{subset-is}
 use Rattle.bits.proofs.subset.Statement.{statement}
 use Rattle.bits.proofs.subset.Tie as tie
 

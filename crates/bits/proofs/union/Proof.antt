@@ -1,5 +1,5 @@
 -- The digits of `a | b` are the greater digits of a and b.
-use Rattle.bits.specs.Word.Laws.{union-is}
+use Rattle.bits.specs.Code.Laws.{union-is}
 use Rattle.bits.proofs.union.Statement.{statement}
 use Rattle.bits.proofs.union.Tie as tie
 

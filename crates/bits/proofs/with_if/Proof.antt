@@ -2,7 +2,7 @@
 use borrow.Author.Needs.{needs}
 use Rattle.bits.proofs.with_if.Statement.{statement}
 use Rattle.bits.proofs.with_if.Tie as tie
-use Rattle.bits.specs.Word.Laws.{with-if-is, with-if-none}
+use Rattle.bits.specs.Code.Laws.{with-if-is, with-if-none}
 
 cast-union : tie.Need-cast-union
 cast-union c = search needs

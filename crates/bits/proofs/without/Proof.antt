@@ -1,5 +1,5 @@
 -- `!b` has just the numbers below 64 that b has not.
-use Rattle.bits.specs.Word.Laws.{without-is}
+use Rattle.bits.specs.Code.Laws.{without-is}
 use Rattle.bits.proofs.without.Statement.{statement}
 use Rattle.bits.proofs.without.Tie as tie
 

@@ -1,5 +1,6 @@
--- `capi::docket_run` meets its contract: by what the calls ensure.
+-- `capi::docket_run` meets its contract: the numbers are those of the call's answer.
 use borrow.Author.Needs.{needs}
+use Rattle.codes.specs.Codes.Laws.{reply-same, steps-written, rests-written}
 use Rattle.capi.proofs.docket_run.Statement.{statement}
 use Rattle.capi.proofs.docket_run.Tie as tie
 
@@ -19,7 +20,7 @@ same-length : tie.Need-same-length
 same-length c = search needs
 
 returns : tie.Need-returns
-returns c = (cc, cc, cc, cc)
+returns c = (search (reply-same, needs), (search needs, (search (steps-written, needs), search (rests-written, needs))))
 
 pub docket-run-spec : {M : Type 1} → statement M
 docket-run-spec =

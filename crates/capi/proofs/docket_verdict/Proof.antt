@@ -1,5 +1,6 @@
--- `capi::docket_verdict` meets its contract: by what the calls ensure.
+-- `capi::docket_verdict` meets its contract: the numbers are those of the call's answer.
 use borrow.Author.Needs.{needs}
+use Rattle.codes.specs.Codes.Laws.{verdict-same, verdict-written}
 use Rattle.capi.proofs.docket_verdict.Statement.{statement}
 use Rattle.capi.proofs.docket_verdict.Tie as tie
 
@@ -13,7 +14,7 @@ verdict-code-requires : tie.Need-verdict-code-requires
 verdict-code-requires c κs = search needs
 
 returns : tie.Need-returns
-returns c = (cc, cc)
+returns c = search (verdict-same, verdict-written, needs)
 
 pub docket-verdict-spec : {M : Type 1} → statement M
 docket-verdict-spec =

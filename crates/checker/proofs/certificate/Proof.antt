@@ -4,23 +4,23 @@ use borrow.Author.Needs.{needs}
 use Rattle.checker.proofs.certificate.Statement.{statement}
 use Rattle.checker.proofs.certificate.Tie as tie
 
-states-part-requires : tie.Need-states-part-requires
-states-part-requires c κs = search needs
+states-section-requires : tie.Need-states-section-requires
+states-section-requires c κs = search needs
 
-rules-part-requires : tie.Need-rules-part-requires
-rules-part-requires c κs = search needs
+rules-section-requires : tie.Need-rules-section-requires
+rules-section-requires c κs = search needs
 
-layers-part-requires : tie.Need-layers-part-requires
-layers-part-requires c κs = search needs
+layers-section-requires : tie.Need-layers-section-requires
+layers-section-requires c κs = search needs
 
-nodes-part-requires : tie.Need-nodes-part-requires
-nodes-part-requires c κs = search needs
+nodes-section-requires : tie.Need-nodes-section-requires
+nodes-section-requires c κs = search needs
 
-leaves-part-requires : tie.Need-leaves-part-requires
-leaves-part-requires c κs = search needs
+leaves-section-requires : tie.Need-leaves-section-requires
+leaves-section-requires c κs = search needs
 
-parts-check-requires : tie.Need-parts-check-requires
-parts-check-requires c κs = search (rules-sound, pairs-sound, needs)
+sections-check-requires : tie.Need-sections-check-requires
+sections-check-requires c κs = search (rules-sound, pairs-sound, needs)
 
 returns : tie.Need-returns
 returns c = search (sections-are, needs)
@@ -29,10 +29,10 @@ pub certificate-spec : {M : Type 1} → statement M
 certificate-spec =
     tie.close
     (tie.spec
-    states-part-requires
-    rules-part-requires
-    layers-part-requires
-    nodes-part-requires
-    leaves-part-requires
-    parts-check-requires
+    states-section-requires
+    rules-section-requires
+    layers-section-requires
+    nodes-section-requires
+    leaves-section-requires
+    sections-check-requires
     returns)

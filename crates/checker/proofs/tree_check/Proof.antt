@@ -1,5 +1,5 @@
--- `checker::tree_check` meets its contract: the answer of the walk, and the figures.
-use Rattle.checker.specs.Check.Laws.{walk-refused, walk-accepted, figures-are}
+-- `checker::tree_check` meets its contract: the answer of the walk, and the summary.
+use Rattle.checker.specs.Check.Laws.{walk-refused, walk-accepted, summary-is}
 use borrow.Author.Needs.{needs}
 use Rattle.checker.proofs.tree_check.Statement.{statement}
 use Rattle.checker.proofs.tree_check.Tie as tie
@@ -13,11 +13,8 @@ enum-told c = search needs
 enum-told-2 : tie.Need-enum-told-2
 enum-told-2 c = search needs
 
-walk-number-requires : tie.Need-walk-number-requires
-walk-number-requires c κs = search needs
-
-walk-place-requires : tie.Need-walk-place-requires
-walk-place-requires c κs = search needs
+refusal-of-requires : tie.Need-refusal-of-requires
+refusal-of-requires c κs = search needs
 
 returns : tie.Need-returns
 returns c = search (walk-refused, needs)
@@ -29,7 +26,7 @@ widest-requires : tie.Need-widest-requires
 widest-requires c κs = search needs
 
 returns-2 : tie.Need-returns-2
-returns-2 c = search (walk-accepted, figures-are, needs)
+returns-2 c = search (walk-accepted, summary-is, needs)
 
 pub tree-check-spec : {M : Type 1} → statement M
 tree-check-spec =
@@ -38,8 +35,7 @@ tree-check-spec =
     check-tree-requires
     enum-told
     enum-told-2
-    walk-number-requires
-    walk-place-requires
+    refusal-of-requires
     returns
     spread-sum-requires
     widest-requires

@@ -3,9 +3,9 @@ use mathlib.Core.Path.{subst}
 use mathlib.Core.List.{List}
 use Prim.Native.Nat.{ℕ}
 use Rattle.theory.specs.Claims.Proved.{theorems}
-use Rattle.format.specs.Format.{headerOf, protocolIn}
+use Rattle.format.specs.Format.{headerOf, sectionsOf, protocolIn, weightsOf}
 use Rattle.claims.specs.Claims.{Rules, IsAccepted, Claims}
-use Rattle.claims.specs.Claims.Exact.{certified, demand-2}
+use Rattle.claims.specs.Claims.Exact.{certified, laddered, demand-2}
 use Rattle.claims.specs.Claims.Numbers.{demand-1}
 use Rattle.claims.specs.Claims.Starts.{start-exact}
 use Rattle.claims.specs.Claims.Lists.{calls-on, demand-3, calls-fail}
@@ -24,6 +24,8 @@ claims b = record {
   calls-on-others = calls-fail b;
   ws³ = λ a. theorems (protocolIn b (headerOf b)) .ws³ (certified b (headerOf b) (keeps b a));
   ws² = λ a. theorems (protocolIn b (headerOf b)) .ws² (certified b (headerOf b) (keeps b a));
-  definitions = λ h sound. theorems (protocolIn b h) .as-published (sound .parts .formed);
+  layered-by = λ a. theorems (protocolIn b (headerOf b)) .of-ladder (laddered b (headerOf b) (keeps b a)) .layered-by;
+  definitions = λ h sound. theorems (protocolIn b h) .as-published (sound .sections .formed);
+  leaf-rule = λ h F l. theorems (protocolIn b h) .leaf-is F (weightsOf (h .sizes) (sectionsOf b h .leaves) l);
   start-exact = start-exact b;
 }

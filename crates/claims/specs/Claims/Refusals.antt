@@ -1,103 +1,64 @@
 -- A refusal of the check is the first test that fits, at its lowest place. Assumes nothing.
-use mathlib.Core.Path.{_≡_, refl, sym, ap, _∙_}
-use mathlib.Core.List.{List, [], _∷_, _++_}
+use mathlib.Core.Path.{_≡_, sym, ap, _∙_}
+use mathlib.Core.List.{List, _++_}
 use mathlib.Core.Logic.{_↔_, _⊎_, inl, inr, ⊎-elim}
-use Prim.Native.Nat.{ℕ, _<_}
+use Prim.Native.Nat.{ℕ}
 use native.Mathlib.Omega.{arith}
-use borrow.Author.Tests.{ltb-true, ltb-false}
-use lib.Dec.{ltb}
-use Rattle.theory.specs.Test.Laws.{by-test}
-use Rattle.theory.specs.Below.Laws.{first-is, first-passes, first-lowest}
-use Rattle.theory.specs.Below.Scan.{first-clear}
-use Rattle.theory.specs.Tree.{Answer, next, refused}
-use Rattle.format.specs.Format.{headerOf, partsOf}
-use Rattle.shape.specs.Judge.{Test, place, judge}
-use Rattle.shape.specs.Judge.Laws.{Passes, judge-hit, judge-pass, judge-map, passes-judge}
-use Rattle.shape.specs.Shape.{onShape, shapeTests, headerShape, shapeOf}
-use Rattle.shape.specs.declared.Shape.the-variants as shape-is
-use Rattle.tree.specs.Tree.{treeAnswerOf}
-use Rattle.checker.specs.Check.{certificateTests, treeCheck, partsCheck, certificateOf, checkOf}
+use Rattle.theory.specs.Judge.{judge, Passes, FirstFits}
+use Rattle.theory.specs.Judge.Laws.{judge-map, judge-append, passes-judge, refused-by, fits-refuses}
+use Rattle.theory.specs.Tree.{Walked, next, refused}
+use Rattle.format.specs.Format.{headerOf, sectionsOf}
+use Rattle.shape.specs.Shape.{refusal, shapeTests, headerShape, shapeOf, byShape}
+use Rattle.shape.specs.declared.Shape.the-variants as shape
+use Rattle.checker.specs.Check.{certificateTests, walkOf, summaryOf, treeCheck, sectionsCheck, checkOf}
+use Rattle.checker.specs.declared.Summary.{Summary}
 use Rattle.checker.specs.declared.Checked.{Checked}
-use Rattle.checker.specs.declared.Checked.the-variants.{Refused}
-use Rattle.claims.specs.Claims.{FirstFits, testsIn, walkIn, figuresIn}
+use Rattle.checker.specs.declared.Checked.the-variants.{Accepted, Refused}
+use Rattle.claims.specs.Claims.{testsIn}
 
-judge-append : {A : Type 0} (refuse : ℕ → ℕ → A) (x : A) (us vs : List Test) → judge refuse x (us ++ vs) ≡ judge refuse (judge refuse x vs) us
-unfolding judge
-judge-append refuse x [] vs = refl
-judge-append refuse x (t ∷ us) vs = by-test (ltb (place t) (t .places)) (λ l. rw (l, judge)) (λ l. rw (l, judge) (judge-append refuse x us vs))
+-- The check's refusal by number n at place k.
+abbrev pub refuse : ℕ → ℕ → Checked
+refuse n k = Refused (refusal n k)
 
--- From a refusal to the first test that fits, or to what follows the tests.
-found : (x : Checked) (ts : List Test) (n k : ℕ) → judge Refused x ts ≡ Refused n k → FirstFits ts n k ⊎ (Passes ts × (x ≡ Refused n k))
-unfolding judge
-found x [] n k e = inr (tt, e)
-found x (t ∷ ts) n k e =
-    by-test (ltb (place t) (t .places))
-    (λ l.
-    let same : Refused (t .number) (place t) ≡ Refused n k = rw (l, judge) at e in
-    let en : t .number ≡ n = cc in
-    let ek : place t ≡ k = cc in
-    let lt : place t < t .places = ltb-true _ _ l in
-    inl (record {
-      earlier = [];
-      test = t;
-      later = ts;
-      in-order = refl;
-      earlier-pass = tt;
-      number-is = en;
-      within = rw ek at lt;
-      fits = rw ek at (first-passes (t .places) (t .bad) lt);
-      lowest-place = λ j m. first-lowest (t .places) (t .bad) j (omega arith);
-    }))
-    (λ l.
-    let clear = first-clear (t .places) (t .bad) (ltb-false _ _ l) in
-    ⊎-elim
-    (λ f. inl (record {
-      earlier = t ∷ f .earlier;
-      test = f .test;
-      later = f .later;
-      in-order = ap (λ us. t ∷ us) (f .in-order);
-      earlier-pass = (clear, f .earlier-pass);
-      number-is = f .number-is;
-      within = f .within;
-      fits = f .fits;
-      lowest-place = f .lowest-place;
-    }))
-    (λ p. inr ((clear, p .0), p .1))
-    (found x ts n k (rw (l, judge) at e)))
+abbrev numberIn : Checked → ℕ
+numberIn (Accepted f) = 0
+numberIn (Refused r) = r .number
 
-passed : (x r : Checked) (us vs : List Test) → Passes us → r ≡ judge Refused x vs → r ≡ judge Refused x (us ++ vs)
-passed x r [] vs p e = e
-passed x r (t ∷ us) vs p e =
-    judge-pass Refused x r t (us ++ vs) (t .places)
-    (sym (first-is (t .places) (t .bad) (t .places) (omega arith) (p .0) (λ l. absurd (omega arith))))
-    (omega arith) (passed x r us vs (p .1) e)
+abbrev placeIn : Checked → ℕ
+placeIn (Accepted f) = 0
+placeIn (Refused r) = r .place
 
-given : (x : Checked) (ts : List Test) (n k : ℕ) → FirstFits ts n k → judge Refused x ts ≡ Refused n k
-given x ts n k f =
-    let t = f .test in
-    let at : k ≡ place t = sym (first-is (t .places) (t .bad) k (omega (arith, f .within)) (f .lowest-place) (λ _. f .fits)) in
-    ap (judge Refused x) (f .in-order)
-    ∙ sym (passed x (Refused n k) (f .earlier) (t ∷ f .later) (f .earlier-pass) (judge-hit Refused x (Refused n k) t (f .later) k at (f .within) (ap (λ i. Refused i k) (sym (f .number-is)))))
+pub tells : (n k m j : ℕ) → refuse n k ≡ refuse m j → (n ≡ m) × (k ≡ j)
+tells n k m j e = (ap numberIn e, ap placeIn e)
 
-walk-refused : (f : _) (a : Answer) (n k : ℕ) → treeCheck f a ≡ Refused n k → a ≡ refused n k
-walk-refused f (next j) n k e = absurd (let z : _≡_ {A = ℕ} 0 1 = cc in omega arith)
-walk-refused f (refused m i) n k e = let same : Refused m i ≡ Refused n k = e in cc
+pub refused-not-accepted : {n k : ℕ} {f : Summary} → refuse n k ≡ Accepted f → ⊥
+refused-not-accepted {n} {k} {f} e = let z : _≡_ {A = ℕ} 0 1 = cc in omega arith
+
+pub walk-refused : (f : Summary) (a : Walked) (n k : ℕ) → treeCheck f a ≡ refuse n k → a ≡ refused n k
+walk-refused f (next j) n k e = absurd (refused-not-accepted (sym e))
+walk-refused f (refused m i) n k e = let s = tells m i n k e in ap (λ x. refused x i) (s .0) ∙ ap (refused n) (s .1)
 
 module _ (b : List ℕ) where
+  -- What follows tests 1 to 11.
+  abbrev end : Checked
+  end = let h = headerOf b in let x = sectionsOf b h in treeCheck (summaryOf (h .sizes) x) (walkOf (h .sizes) x)
+
   -- The check is one list of tests, and then the walk.
-  check-judges : checkOf b ≡ judge Refused (treeCheck (figuresIn b (headerOf b)) (walkIn b (headerOf b))) (testsIn b (headerOf b))
-  unfolding checkOf shapeOf headerShape partsCheck treeAnswerOf
+  check-judges : checkOf b ≡ judge refuse end (testsIn b (headerOf b))
+  unfolding checkOf shapeOf headerShape sectionsCheck
   check-judges =
       let h = headerOf b in
-      judge-map (onShape Refused (certificateOf b)) shape-is.Refused (shape-is.Sound h) (shapeTests b h)
-      ∙ sym (judge-append Refused (treeCheck (figuresIn b h) (walkIn b h)) (shapeTests b h) (certificateTests (h .sizes) (partsOf b h .states) (partsOf b h .rules) (partsOf b h .layers) (partsOf b h .leaves)))
+      judge-map (byShape Refused (λ k. sectionsCheck (k .sizes) (sectionsOf b k))) (λ n k. shape.Refused (refusal n k)) (shape.Sound h) (shapeTests b h)
+      ∙ sym (judge-append refuse end (shapeTests b h) (certificateTests (h .sizes) (sectionsOf b h)))
 
-  pub refusal-is : (n k : ℕ) → let h = headerOf b in (checkOf b ≡ Refused n k) ↔ (FirstFits (testsIn b h) n k ⊎ (Passes (testsIn b h) × (walkIn b h ≡ refused n k)))
+  pub refusal-is : (n k : ℕ) → let h = headerOf b in
+      (checkOf b ≡ refuse n k)
+      ↔ (FirstFits (testsIn b h) n k ⊎ (Passes (testsIn b h) × (walkOf (h .sizes) (sectionsOf b h) ≡ refused n k)))
   refusal-is n k =
       let h = headerOf b in
-      let x = treeCheck (figuresIn b h) (walkIn b h) in (
-        λ e. ⊎-elim inl (λ p. inr (p .0, walk-refused (figuresIn b h) (walkIn b h) n k (p .1))) (found x (testsIn b h) n k (sym check-judges ∙ e)),
+      let f = summaryOf (h .sizes) (sectionsOf b h) in (
+        λ e. ⊎-elim inl (λ p. inr (p .0, walk-refused f _ n k (p .1))) (refused-by refuse end tells (testsIn b h) n k (sym check-judges ∙ e)),
         ⊎-elim
-            (λ f. check-judges ∙ given x (testsIn b h) n k f)
-            (λ p. check-judges ∙ passes-judge Refused x (testsIn b h) (p .0) ∙ ap (treeCheck (figuresIn b h)) (p .1)),
+            (λ g. check-judges ∙ fits-refuses refuse end (testsIn b h) n k g)
+            (λ p. check-judges ∙ passes-judge refuse end (testsIn b h) (p .0) ∙ ap (treeCheck f) (p .1)),
       )

@@ -7,7 +7,7 @@ use Prim.Native.Nat.{ℕ, _≤_}
 use native.Mathlib.Omega.{arith}
 use borrow.Author.Tests.{ltb-false, leb-true, le-ltb}
 use lib.Dec.{leb, ltb}
-use Rattle.theory.specs.Test.Laws.{by-test, and-elim}
+use Rattle.theory.specs.Bool.Laws.{by-test, and-elim}
 use Rattle.theory.specs.Below.Laws.{first-le}
 use Rattle.theory.specs.Protocol.{Protocol, size, unfit, Start, startTest}
 use Rattle.theory.specs.Machine.{isSized, isWithin, admitted, admit}
@@ -17,21 +17,22 @@ use Rattle.format.specs.Format.{protocolIn}
 use Rattle.format.specs.declared.Header.{Header}
 use Rattle.shape.specs.Sound.{SoundShape}
 use Rattle.shape.specs.Sound.Laws.{shape-sound}
+use Rattle.shape.specs.declared.Refusal.{Refusal}
 use Rattle.machine.specs.Calls.{startAnswer, startOf}
-use Rattle.shape.specs.Shape.{onShape}
+use Rattle.shape.specs.Shape.{refusal, byShape}
 use Rattle.machine.specs.declared.Started.the-variants as started
 
-refused-not-start : {n k : ℕ} → started.Refused n k ≡ started.Start → ⊥
-refused-not-start {n} {k} e = let z : _≡_ {A = ℕ} 0 1 = cc in omega arith
+refused-not-start : {r : Refusal} → started.Refused r ≡ started.Start → ⊥
+refused-not-start {r} e = let z : _≡_ {A = ℕ} 0 1 = cc in omega arith
 
 module _ (P : Protocol) (c : List ℕ) (on : admitted P c ≡ true) where
   enough : 2 ≤ size c
   unfolding admitted isWithin
-  enough = leb-true _ _ (and-elim (leb 2 (size c)) (leb (size c) 1000000) (and-elim (isSized P c) (isWithin P c) on .1) .0)
+  enough = leb-true _ _ (and-elim (leb 2 (size c)) (leb (size c) 1000000) (and-elim (isSized P c) (isWithin c) on .1) .0)
 
-  answer : startAnswer P c ≡ cond (ltb (startTest P c) (P .states)) (started.Refused 22 (startTest P c)) started.Start
+  answer : startAnswer P c ≡ cond (ltb (startTest P c) (P .states)) (started.Refused (refusal 22 (startTest P c))) started.Start
   unfolding startAnswer admit admitted
-  answer = let s = and-elim (isSized P c) (isWithin P c) on in rw (s .0, s .1)
+  answer = let s = and-elim (isSized P c) (isWithin c) on in rw (s .0, s .1)
 
   exact : (startAnswer P c ≡ started.Start) ↔ Start P c
   unfolding startTest
@@ -43,9 +44,11 @@ module _ (P : Protocol) (c : List ℕ) (on : admitted P c ≡ true) where
         λ s. let e = t .1 s in answer ∙ rw (le-ltb (startTest P c) (P .states) (omega arith)),
       )
 
-pub start-exact : (b : List ℕ) (h : Header) → SoundShape b h → (c : List ℕ) → admitted (protocolIn b h) c ≡ true → (startOf b c ≡ started.Start) ↔ Start (protocolIn b h) c
+pub start-exact : (b : List ℕ) (h : Header) → SoundShape b h → (c : List ℕ) → admitted (protocolIn b h) c ≡ true
+    → (startOf b c ≡ started.Start) ↔ Start (protocolIn b h) c
 unfolding startOf
 start-exact b h sound c on =
-    let same : startOf b c ≡ startAnswer (protocolIn b h) c = ap (onShape started.Refused (λ k. startAnswer (protocolIn b k) c)) (shape-sound b h sound) in
+    let same : startOf b c ≡ startAnswer (protocolIn b h) c =
+    ap (byShape started.Refused (λ k. startAnswer (protocolIn b k) c)) (shape-sound b h sound) in
     let x = exact (protocolIn b h) c on in
     (λ e. x .0 (sym same ∙ e), λ s. same ∙ x .1 s)

@@ -1,4 +1,5 @@
--- Sample P11: majority with all four rules in one layer is refused by number 9, whatever the weights within their limits. Assumes nothing.
+-- Sample P11: majority with all four rules in one layer is refused by number 9, whatever the weights within their limits.
+-- Assumes nothing.
 use mathlib.Core.Path.{_≡_, refl, sym, ap, _∙_}
 use mathlib.Core.Bool.{Bool, false, not}
 use mathlib.Core.List.{List, []}
@@ -8,16 +9,16 @@ use native.Mathlib.Omega.{arith}
 use native.Mathlib.Decide.{decLt}
 use borrow.Author.Tests.{ltb-true, le-ltb, not-false}
 use lib.Dec.{ltb}
-use Rattle.theory.specs.Below.{anyBelow, firstBelow}
-use Rattle.theory.specs.Below.Scan.{Clear, first-clear}
+use Rattle.theory.specs.Below.{anyBelow, firstBelow, Clear}
+use Rattle.theory.specs.Below.Scan.{first-clear}
 use Rattle.theory.specs.Ladder.{lowersAt}
 use Rattle.format.specs.Bytes.{le16, le32}
-use Rattle.format.specs.Format.{headerOf, partsOf, protocolIn}
+use Rattle.format.specs.Format.{headerOf, sectionsOf, protocolIn, layersIn, weightIn}
 use Rattle.format.specs.declared.Header.{Header}
-use Rattle.shape.specs.Judge.Laws.{judge-hit, passes-judge}
-use Rattle.shape.specs.Shape.{onShape, badState, repeats, badLayer, shapeTests, headerShape, shapeOf}
-use Rattle.shape.specs.declared.Shape.the-variants as shape-is
-use Rattle.checker.specs.Check.{certificateOf, partsCheck, checkOf}
+use Rattle.theory.specs.Judge.Laws.{judge-hit, passes-judge}
+use Rattle.shape.specs.Shape.{refusal, byShape, badState, repeats, badLayer, shapeTests, headerShape, shapeOf}
+use Rattle.shape.specs.declared.Shape.the-variants as shape
+use Rattle.checker.specs.Check.{sectionsCheck, checkOf}
 use Rattle.checker.specs.declared.Checked.the-variants.{Refused}
 use Rattle.claims.specs.Dockets.{word, oneLayer}
 
@@ -41,27 +42,33 @@ module _ (x y z t : ℕ) (lx : x ≤ 1000000) (ly : y ≤ 1000000) (lz : z ≤ 1
   unfolding anyBelow le16 le32
   weights = rw (reads x lx, reads y ly, reads z lz, reads t lt, le-ltb 1000000 x lx, le-ltb 1000000 y ly, le-ltb 1000000 z lz, le-ltb 1000000 t lt)
 
-  layer : Clear (badLayer (h .sizes) (partsOf b h .rules) (partsOf b h .layers)) 1
+  layer : Clear (badLayer (h .sizes) (sectionsOf b h .rules) (sectionsOf b h .layers)) 1
   unfolding badLayer anyBelow le16
   layer zero l = weights
   layer (suc k) l = absurd (omega arith)
 
-  sound : shapeOf b ≡ shape-is.Sound h
+  sound : shapeOf b ≡ shape.Sound h
   unfolding shapeOf headerShape badState repeats firstBelow anyBelow le16
-  sound = passes-judge shape-is.Refused (shape-is.Sound h) (shapeTests b h) (none _ _ refl, (none _ _ refl, (none _ _ refl, (none _ _ refl, (none _ _ refl, (none _ _ refl, (none _ _ refl, (layer, tt))))))))
+  sound = passes-judge (λ n k. shape.Refused (refusal n k)) (shape.Sound h) (shapeTests b h)
+      (none _ _ refl, (none _ _ refl, (none _ _ refl, (none _ _ refl, (none _ _ refl, (none _ _ refl, (none _ _ refl, (layer, tt))))))))
 
   -- Rules 1 and 2 cannot both lower: one needs more weight of b than of a, the other less.
-  fails : Clear (λ r. not (lowersAt (protocolIn b h) r)) 4 → ⊥
+  fails : Clear (λ r. not (lowersAt (protocolIn b h) (layersIn b h) (weightIn b h) r)) 4 → ⊥
   unfolding lowersAt le16
   fails all =
-      let w = protocolIn b h .weight 0 in
+      let w = weightIn b h 0 in
       let first : w 0 + w 2 < w 0 + w 3 = ltb-true _ _ (not-false _ (all 1 (omega arith))) in
       let second : w 1 + w 3 < w 1 + w 2 = ltb-true _ _ (not-false _ (all 2 (omega arith))) in
       omega arith
 
   rule : ℕ
-  rule = firstBelow 4 (λ r. not (lowersAt (protocolIn b h) r))
+  rule = firstBelow 4 (λ r. not (lowersAt (protocolIn b h) (layersIn b h) (weightIn b h) r))
 
-  pub one-layer : (k : ℕ) × (checkOf b ≡ Refused 9 k)
-  unfolding checkOf partsCheck le16 rule
-  one-layer = (rule, ap (onShape Refused (certificateOf b)) sound ∙ sym (judge-hit Refused _ (Refused 9 rule) _ _ rule refl (by-cases (decLt rule 4) (λ l. l) (λ g. absurd (fails (first-clear 4 _ (omega arith))))) refl))
+  pub one-layer : (k : ℕ) × (checkOf b ≡ Refused (refusal 9 k))
+  unfolding checkOf sectionsCheck le16 rule
+  one-layer = (
+    rule,
+    ap (byShape Refused (λ k. sectionsCheck (k .sizes) (sectionsOf b k))) sound
+        ∙ sym (judge-hit (λ n k. Refused (refusal n k)) _ (Refused (refusal 9 rule)) _ _ rule refl
+        (by-cases (decLt rule 4) (λ l. l) (λ g. absurd (fails (first-clear 4 _ (omega arith))))) refl),
+  )

@@ -1,5 +1,5 @@
 -- `counts::count` meets its contract: past the end the count is 0.
-use Rattle.counts.specs.Counts.Laws.{past-count}
+use Rattle.counts.specs.Code.Laws.{past-count}
 use borrow.Author.Needs.{needs}
 use Rattle.counts.proofs.count.Statement.{statement}
 use Rattle.counts.proofs.count.Tie as tie

@@ -2,7 +2,7 @@
 use borrow.Author.Needs.{needs}
 use Rattle.counts.proofs.enabled.Statement.{statement}
 use Rattle.counts.proofs.enabled.Tie as tie
-use Rattle.counts.specs.Counts.Laws.{rule-enabled}
+use Rattle.counts.specs.Code.Laws.{enabled-pair}
 
 read-rule-requires : tie.Need-read-rule-requires
 read-rule-requires c κs = search needs
@@ -11,7 +11,7 @@ pair-enabled-requires : tie.Need-pair-enabled-requires
 pair-enabled-requires c κs = search needs
 
 returns : tie.Need-returns
-returns c = search (rule-enabled, needs)
+returns c = search (enabled-pair, needs)
 
 pub enabled-spec : {M : Type 1} → statement M
 enabled-spec = tie.close (tie.spec read-rule-requires pair-enabled-requires returns)

@@ -1,7 +1,7 @@
 -- `counts::gain` meets its contract: past the end nothing changes.
 use mathlib.Core.Path.{refl}
 use Rattle.theory.specs.Protocol.{gain}
-use Rattle.counts.specs.Counts.Laws.{gain-past}
+use Rattle.counts.specs.Code.Laws.{gain-past, most-fits}
 use borrow.Author.Needs.{needs}
 use Rattle.counts.proofs.gain.Statement.{statement}
 use Rattle.counts.proofs.gain.Tie as tie
@@ -13,7 +13,7 @@ slice-read-counts : tie.Need-slice-read-counts
 slice-read-counts c = search needs
 
 add-counts : tie.Need-add-counts
-add-counts c = search needs
+add-counts c = search (most-fits, needs)
 
 slice-write-counts : tie.Need-slice-write-counts
 slice-write-counts c = search needs

@@ -1,7 +1,7 @@
 -- `counts::lose` meets its contract: where there is no agent, nothing changes.
 use mathlib.Core.Path.{refl}
 use Rattle.theory.specs.Protocol.{lose}
-use Rattle.counts.specs.Counts.Laws.{lose-none, lose-past}
+use Rattle.counts.specs.Code.Laws.{lose-none, lose-past}
 use borrow.Author.Needs.{needs}
 use Rattle.counts.proofs.lose.Statement.{statement}
 use Rattle.counts.proofs.lose.Tie as tie

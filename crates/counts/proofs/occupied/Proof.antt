@@ -1,21 +1,22 @@
--- `counts::occupied` meets its contract: the set has the occupied states below i.
+-- `counts::occupied` meets its contract: the set has the occupied states below `i`.
 use Prim.Native.Nat.{_≤_, _-_}
 use mathlib.Core.Path.{_≡_}
-use Rattle.theory.specs.Test.{member}
-use Rattle.counts.specs.Counts.{statesThat, isOccupied}
-use Rattle.counts.specs.Counts.Laws.{that-none, that-more, that-done}
 use borrow.Author.Needs.{needs}
+use Rattle.theory.specs.Bool.{member}
+use Rattle.bits.specs.Code.{amongOf}
+use Rattle.bits.specs.Code.Laws.{gathering}
+use Rattle.counts.specs.Code.{isOccupied}
 use Rattle.counts.proofs.occupied.Statement.{statement}
 use Rattle.counts.proofs.occupied.Tie as tie
 
 abbrev Inv-loop : tie.InvT-loop
-Inv-loop counts n set₀ i₀ set i = (i ≤ n) × (member set ≡ statesThat (isOccupied counts) i)
+Inv-loop counts n set₀ i₀ set i = (i ≤ n) × (member set ≡ amongOf i (isOccupied counts))
 
 abbrev μ-loop : tie.MeasureT-loop
 μ-loop counts n set₀ i₀ set i = n - i
 
 loop-holds : tie.Need-loop-holds Inv-loop μ-loop
-loop-holds c = (search needs, that-none _)
+loop-holds c = search (gathering, needs)
 
 is-occupied-requires : tie.Need-is-occupied-requires Inv-loop μ-loop
 is-occupied-requires c κs = search needs
@@ -33,10 +34,10 @@ loop-less : tie.Need-loop-less Inv-loop μ-loop
 loop-less c = search needs
 
 loop-again : tie.Need-loop-again Inv-loop μ-loop
-loop-again c = (search needs, that-more _ _ _ _ _ (c .before .before .before .loop .inv .1) (c .before .is-occupied .ensures) (c .with-if .ensures))
+loop-again c = search (gathering, needs)
 
 returns : tie.Need-returns Inv-loop μ-loop
-returns c = search (that-done, needs)
+returns c = search (gathering, needs)
 
 pub occupied-spec : {M : Type 1} → statement M
 occupied-spec =

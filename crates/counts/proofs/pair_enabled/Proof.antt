@@ -2,7 +2,7 @@
 use borrow.Author.Needs.{needs}
 use Rattle.counts.proofs.pair_enabled.Statement.{statement}
 use Rattle.counts.proofs.pair_enabled.Tie as tie
-use Rattle.counts.specs.Counts.Laws.{pair-empty, pair-same, pair-other}
+use Rattle.counts.specs.Code.Laws.{pair-empty, pair-same, pair-other}
 
 count-requires : tie.Need-count-requires
 count-requires c κs = search needs

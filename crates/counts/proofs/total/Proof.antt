@@ -1,7 +1,7 @@
 -- `counts::total` meets its contract: the sum of the counts below i, which is small.
 use Prim.Native.Nat.{_≤_, _-_}
 use lib.ListN.{getD}
-use Rattle.counts.specs.Counts.Laws.{Summed, sum-none, sum-more, sum-fits, sum-done}
+use Rattle.counts.specs.Code.Laws.{Summed, sum-none, sum-more, sum-fits, sum-done}
 use borrow.Author.Needs.{needs}
 use Rattle.counts.proofs.total.Statement.{statement}
 use Rattle.counts.proofs.total.Tie as tie

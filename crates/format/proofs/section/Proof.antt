@@ -1,6 +1,6 @@
 -- `format::section` meets its contract: past the end, up to the end, and inside.
 use borrow.Author.Needs.{needs}
-use Rattle.format.specs.Bytes.Laws.{part-past, part-rest, part-inside}
+use Rattle.format.specs.Bytes.Laws.{section-past, section-rest, section-inside}
 use Rattle.format.proofs.section.Statement.{statement}
 use Rattle.format.proofs.section.Tie as tie
 
@@ -14,7 +14,7 @@ part-result-end : tie.Need-part-result-end
 part-result-end c = search needs
 
 returns : tie.Need-returns
-returns c = search (part-past, needs)
+returns c = search (section-past, needs)
 
 sub-rest : tie.Need-sub-rest
 sub-rest c = search needs
@@ -29,7 +29,7 @@ part-result-end-2 : tie.Need-part-result-end-2
 part-result-end-2 c = search needs
 
 returns-2 : tie.Need-returns-2
-returns-2 c = search (part-rest, needs)
+returns-2 c = search (section-rest, needs)
 
 add-end : tie.Need-add-end
 add-end c = search needs
@@ -44,7 +44,7 @@ part-result-end-3 : tie.Need-part-result-end-3
 part-result-end-3 c = search needs
 
 returns-3 : tie.Need-returns-3
-returns-3 c = search (part-inside, needs)
+returns-3 c = search (section-inside, needs)
 
 pub section-spec : {M : Type 1} → statement M
 section-spec =

@@ -6,7 +6,8 @@ use native.Mathlib.Nat.{mul-le-mul}
 use native.Mathlib.Omega.{arith}
 use lib.ListN.{length, getD, drop, length-drop, drop-of-length-le, List·getD-eq-default}
 use lib.Seq.{take-all, take-nil}
-use Rattle.format.specs.Bytes.{le16, le32, le64, part, Value}
+use Rattle.format.specs.Bytes.{le16, le32, le64, section}
+use Rattle.format.specs.Code.{Value}
 
 pub past-byte : (b : List ℕ) (k : ℕ) → length b ≤ k → Value 256 (getD b k 0) 0
 past-byte b k h = record { is = sym (List·getD-eq-default b 0 h); small = omega arith }
@@ -28,7 +29,8 @@ short16 b k r h = last16 b k r (omega arith)
 pub end16 : (b : List ℕ) (k r : ℕ) → length b - 2 < k → Value 256 (getD b k 0) r → r ≡ le16 b k
 end16 b k r h = last16 b k r (omega arith)
 
-pub four32 : (b : List ℕ) (k v w x y : ℕ) → Value 256 (getD b k 0) v → Value 256 (getD b (k + 1) 0) w → Value 256 (getD b (k + 2) 0) x → Value 256 (getD b (k + 3) 0) y
+pub four32 : (b : List ℕ) (k v w x y : ℕ) → Value 256 (getD b k 0) v → Value 256 (getD b (k + 1) 0) w → Value 256 (getD b (k + 2) 0) x
+    → Value 256 (getD b (k + 3) 0) y
     → v + 256 * w + 65536 * (x + 256 * y) ≡ le32 b k
 unfolding le32 le16
 four32 b k v w x y hv hw hx hy =
@@ -52,13 +54,13 @@ product-small a b h k =
     omega arith
 
 -- The parts that a section is cut from: past the end, up to the end, and inside.
-pub part-past : (b : List ℕ) (m k n : ℕ) → m ≡ length b → m ≤ k → part b m (m - m) ≡ part b k n
-part-past b m k n e h =
+pub section-past : (b : List ℕ) (m k n : ℕ) → m ≡ length b → m ≤ k → section b m (m - m) ≡ section b k n
+section-past b m k n e h =
     simp (drop-of-length-le b {i = m} (omega arith), drop-of-length-le b {i = k} (omega arith), take-nil)
 
-pub part-rest : (b : List ℕ) (m k n : ℕ) → m ≡ length b → m - k ≤ n → part b k (m - k) ≡ part b k n
-part-rest b m k n e h =
+pub section-rest : (b : List ℕ) (m k n : ℕ) → m ≡ length b → m - k ≤ n → section b k (m - k) ≡ section b k n
+section-rest b m k n e h =
     take-all (m - k) (drop k b) (simp length-drop (omega arith)) ∙ sym (take-all n (drop k b) (simp length-drop (omega arith)))
 
-pub part-inside : (b : List ℕ) (k n : ℕ) → part b k (k + n - k) ≡ part b k n
-part-inside b k n = ap (λ j. part b k j) (let e : k + n - k ≡ n = omega arith in e)
+pub section-inside : (b : List ℕ) (k n : ℕ) → section b k (k + n - k) ≡ section b k n
+section-inside b k n = ap (λ j. section b k j) (let e : k + n - k ≡ n = omega arith in e)

@@ -1,5 +1,5 @@
 -- `ladder::beyond` meets its contract: each branch is the definition's case.
-use Rattle.ladder.specs.Ladder.Laws.{beyond-short, beyond-enough}
+use Rattle.ladder.specs.Code.Laws.{beyond-short, beyond-enough}
 use borrow.Author.Needs.{needs}
 use Rattle.ladder.proofs.beyond.Statement.{statement}
 use Rattle.ladder.proofs.beyond.Tie as tie

@@ -1,36 +1,40 @@
--- `ladder::handover_fault` meets its contract: handover holds at each rule below `s`, each rule below `u` is covered for `s`, and no rule below `v` is fitting for `s` and `u`.
-use mathlib.Core.Path.{_≡_, refl, sym, ap, _∙_}
+-- `ladder::handover_fault` meets its contract: handover holds at each rule below `s`, each rule below `u` is covered for `s`,
+-- and no rule below `v` is fitting for `s` and `u`.
+use mathlib.Core.Path.{_≡_}
 use mathlib.Core.Bool.{false, not}
-use mathlib.Core.List.{[]}
 use mathlib.Core.Logic.{inl, inr}
 use Prim.Native.Nat.{_≤_, _<_, _-_}
 use native.Mathlib.Omega.{arith}
-use Rattle.theory.specs.Below.Scan.{Clear, scan, clear-more, first-hit}
-use Rattle.theory.specs.Ladder.{handoverAt}
-use Rattle.ladder.specs.Ladder.{ladderOf, fitting, uncovered}
-use Rattle.ladder.specs.Ladder.Laws.{sound-pair, fits-turn, not-lower, covered-by, covered-by-none, covered-passes, uncovered-fails}
-use Rattle.format.specs.declared.Rule.{Rule}
 use borrow.Author.Needs.{needs}
+use Rattle.theory.specs.Below.{Clear}
+use Rattle.theory.specs.Below.Scan.{scan, clear-next, first-at}
+use Rattle.theory.specs.Ladder.{handoverAt}
+use Rattle.format.specs.Format.{protocolOf, layersOf}
+use Rattle.ladder.specs.Code.{fitting, uncovered}
+use Rattle.ladder.specs.Code.Laws.{sound-pair, none-fits, one-fits, higher-covered, none-covers, covered-passes, uncovered-fails}
 use Rattle.ladder.proofs.handover_fault.Statement.{statement}
 use Rattle.ladder.proofs.handover_fault.Tie as tie
 
 abbrev Inv-search : tie.InvT-search
-Inv-search rules z n s rule layer u j set v₀ v = (v ≤ z .rules) × Clear (fitting (ladderOf z rules []) s u) v
+Inv-search states rules z n s rule layer u j set v₀ v =
+    (v ≤ z .rules) × Clear (fitting (protocolOf z states rules) (layersOf z rules) s u) v
 
 abbrev μ-search : tie.MeasureT-search
-μ-search rules z n s rule layer u j set v₀ v = z .rules - v
+μ-search states rules z n s rule layer u j set v₀ v = z .rules - v
 
 abbrev Inv-loop : tie.InvT-loop
-Inv-loop rules z n s rule layer u₀ u = (u ≤ z .rules) × Clear (uncovered (ladderOf z rules []) s) u
+Inv-loop states rules z n s rule layer u₀ u =
+    (u ≤ z .rules) × Clear (uncovered (protocolOf z states rules) (layersOf z rules) s) u
 
 abbrev μ-loop : tie.MeasureT-loop
-μ-loop rules z n s rule layer u₀ u = z .rules - u
+μ-loop states rules z n s rule layer u₀ u = z .rules - u
 
 abbrev Inv-test : tie.InvT-test
-Inv-test rules z n s₀ s = (s ≤ z .rules) × Clear (λ k. not (handoverAt (ladderOf z rules []) k)) s
+Inv-test states rules z n s₀ s =
+    (s ≤ z .rules) × Clear (λ k. not (handoverAt (protocolOf z states rules) (layersOf z rules) k)) s
 
 abbrev μ-test : tie.MeasureT-test
-μ-test rules z n s₀ s = z .rules - s
+μ-test states rules z n s₀ s = z .rules - s
 
 cast-n : tie.Need-cast-n Inv-search μ-search Inv-loop μ-loop Inv-test μ-test
 cast-n c = search needs
@@ -62,8 +66,8 @@ states-of-requires c κs = search needs
 rule-fits-requires :
     tie.Need-rule-fits-requires Inv-search μ-search Inv-loop μ-loop Inv-test μ-test
 rule-fits-requires c κs =
-    let start = c .before .before .before .before .before .before .before .before .before .before .before .before .before .before .before .before .before in
-    (sound-pair _ _ (start .pre) _ (omega arith), c .before .before .before .states-of .ensures)
+    let start = c .before .before .before .before .before .before .before .before .before .before .before .before .before .before .before .before .before .before in
+    (sound-pair _ _ _ (start .pre) (omega arith), c .before .before .before .states-of .ensures)
 
 add-v : tie.Need-add-v Inv-search μ-search Inv-loop μ-loop Inv-test μ-test
 add-v c = search needs
@@ -75,9 +79,11 @@ search-again : tie.Need-search-again Inv-search μ-search Inv-loop μ-loop Inv-t
 search-again c =
     let at-u = c .before .before .before .before .before .before .before .before .before in
     let at-s = at-u .before .before .before .before in
-    let start = at-s .before .before .before .before .before .before in
-    let fit = fits-turn _ _ (start .pre) _ (omega arith) _ _ _ _ _ _ (at-s .read-rule .ensures) (at-u .read-rule2 .ensures) (c .before .before .before .before .before .before .pre-sequence .ensures) (c .before .rule-fits .ensures) in
-    (omega arith, clear-more _ _ _ (c .before .before .before .before .search .inv .1) fit (c .if5 .left))
+    let start = at-s .before .before .before .before .before .before .before in
+    let none =
+    none-fits (start .args .z) (start .args .states .now) (start .args .rules .now) _ _ _ _ (at-s .read-rule .ensures) (at-u .read-rule2 .ensures)
+    (start .pre) _ (omega arith) _ _ (c .before .before .before .before .before .before .pre-sequence .ensures) (c .before .rule-fits .ensures) in
+    (omega arith, none (c .before .before .before .before .search .inv .1) (c .if5 .left))
 
 add-u : tie.Need-add-u Inv-search μ-search Inv-loop μ-loop Inv-test μ-test
 add-u c = search needs
@@ -89,16 +95,20 @@ loop-again : tie.Need-loop-again Inv-search μ-search Inv-loop μ-loop Inv-test 
 loop-again c =
     let at-u = c .before .before in
     let at-s = at-u .before .before .before .before in
-    let start = at-s .before .before .before .before .before .before in
-    let P = ladderOf (start .args .z) (start .args .rules .now) [] in
+    let start = at-s .before .before .before .before .before .before .before in
+    let z = start .args .z in
+    let states = start .args .states .now in
+    let rules = start .args .rules .now in
     let s = at-s .before .before .before .test .s in
     let u = at-u .before .before .before .loop .u in
-    let covered : uncovered P s u ≡ false =
+    let one = one-fits z states rules s u _ _ (at-s .read-rule .ensures) (at-u .read-rule2 .ensures) (start .pre) in
+    let higher = higher-covered z states rules s u _ _ (at-s .read-rule .ensures) (at-u .read-rule2 .ensures) in
+    let covered : uncovered (protocolOf z states rules) (layersOf z rules) s u ≡ false =
     elim (c .if3 .came) [
-      | inl w ↦ covered-by P s u (w .3 .v) (omega arith) (sym (fits-turn _ _ (start .pre) _ (omega arith) _ _ _ _ _ _ (at-s .read-rule .ensures) (at-u .read-rule2 .ensures) (w .1 .ensures) (w .6 .ensures)) ∙ w .7 .taken)
-      | inr w ↦ not-lower P s u (omega (arith, ap (λ (r : Rule). r .layer) (at-s .read-rule .ensures), ap (λ (r : Rule). r .layer) (at-u .read-rule2 .ensures)))
+      | inl w ↦ one _ (omega arith) _ _ (w .1 .ensures) (w .6 .ensures) (w .7 .taken)
+      | inr w ↦ higher (omega arith)
     ] in
-    (omega arith, clear-more _ _ _ (at-u .before .before .before .loop .inv .1) refl covered)
+    (omega arith, clear-next _ _ (at-u .before .before .before .loop .inv .1) covered)
 
 add-s : tie.Need-add-s Inv-search μ-search Inv-loop μ-loop Inv-test μ-test
 add-s c = search needs
@@ -107,13 +117,7 @@ test-less : tie.Need-test-less Inv-search μ-search Inv-loop μ-loop Inv-test μ
 test-less c = search needs
 
 test-again : tie.Need-test-again Inv-search μ-search Inv-loop μ-loop Inv-test μ-test
-test-again c =
-    let at-loop = c .before .before in
-    let at-test = at-loop .before .before .before .before in
-    let start = at-test .before .before .before in
-    let P = ladderOf (start .args .z) (start .args .rules .now) [] in
-    let holds = covered-passes P (at-test .test .s) (λ k l. at-loop .loop .inv .1 k (omega arith)) in
-    (omega arith, clear-more _ _ _ (at-test .test .inv .1) refl holds)
+test-again c = search (clear-next, covered-passes, needs)
 
 returns : tie.Need-returns Inv-search μ-search Inv-loop μ-loop Inv-test μ-test
 returns c = search (scan, needs)
@@ -123,13 +127,13 @@ returns-2 c =
     let at-search = c .before .before in
     let at-u = at-search .before .before .before .before .before in
     let at-s = at-u .before .before .before .before in
-    let start = at-s .before .before .before .before .before .before in
-    let P = ladderOf (start .args .z) (start .args .rules .now) [] in
-    let s = at-s .before .before .before .test .s in
-    let u = at-u .before .before .before .loop .u in
-    let lower : P .layer u < P .layer s = omega (arith, ap (λ (r : Rule). r .layer) (at-s .read-rule .ensures), ap (λ (r : Rule). r .layer) (at-u .read-rule2 .ensures)) in
-    let none = covered-by-none P s u lower (λ k l. at-search .search .inv .1 k (omega arith)) in
-    first-hit _ _ _ _ (omega arith) (at-s .before .before .before .test .inv .1) refl (uncovered-fails P s u (omega arith) none)
+    let start = at-s .before .before .before .before .before .before .before in
+    let rules = start .args .rules .now in
+    let lower : at-u .read-rule2 .result .layer < at-s .read-rule .result .layer = omega arith in
+    let none =
+    none-covers (start .args .z) (start .args .states .now) rules _ _ _ _ (at-s .read-rule .ensures) (at-u .read-rule2 .ensures)
+    _ lower (at-search .search .inv .1) (omega arith) in
+    first-at _ _ _ (omega arith) (at-s .before .before .before .test .inv .1) (uncovered-fails _ _ _ _ (omega arith) none)
 
 pub handover-fault-spec : {M : Type 1} → statement M
 handover-fault-spec =

@@ -1,5 +1,5 @@
 -- `ladder::in_pair` meets its contract: the byte of a test is 1 or 0.
-use Rattle.ladder.specs.Ladder.Laws.{pair-fits}
+use Rattle.ladder.specs.Code.Laws.{pair-fits}
 use lib.Dec.{eqb}
 use native.Mathlib.Omega.{arith}
 use borrow.Author.Needs.{needs}

@@ -4,12 +4,13 @@ use mathlib.Core.Path.{_≡_}
 use Prim.Native.Nat.{_≤_, _-_}
 use Rattle.theory.specs.Below.{least, greatest}
 use Rattle.format.specs.Format.{layerWeight}
-use Rattle.ladder.specs.Ladder.Laws.{extremes, low-le-high, spread-is}
+use Rattle.ladder.specs.Code.Laws.{extremes, low-le-high, spread-is}
 use Rattle.ladder.proofs.layer_spread.Statement.{statement}
 use Rattle.ladder.proofs.layer_spread.Tie as tie
 
 abbrev Inv-loop : tie.InvT-loop
-Inv-loop layers z l low₀ high₀ s₀ low high s = (s ≤ z .states) × ((low ≡ least s (layerWeight (z .states) layers l)) × (high ≡ greatest s (layerWeight (z .states) layers l)))
+Inv-loop layers z l low₀ high₀ s₀ low high s =
+    (s ≤ z .states) × ((low ≡ least s (layerWeight (z .states) layers l)) × (high ≡ greatest s (layerWeight (z .states) layers l)))
 
 abbrev μ-loop : tie.MeasureT-loop
 μ-loop layers z l low₀ high₀ s₀ low high s = z .states - s

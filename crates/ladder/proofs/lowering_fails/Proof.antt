@@ -1,5 +1,5 @@
 -- `ladder::lowering_fails` meets its contract: by what the readers and pair_weight ensure.
-use Rattle.ladder.specs.Ladder.Laws.{lowers-by}
+use Rattle.ladder.specs.Code.Laws.{lowers-by}
 use borrow.Author.Needs.{needs}
 use Rattle.ladder.proofs.lowering_fails.Statement.{statement}
 use Rattle.ladder.proofs.lowering_fails.Tie as tie

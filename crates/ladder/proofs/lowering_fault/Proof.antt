@@ -2,17 +2,20 @@
 use borrow.Author.Needs.{needs}
 use mathlib.Core.Bool.{not}
 use Prim.Native.Nat.{_≤_, _-_}
-use Rattle.theory.specs.Below.Scan.{Clear, scan}
+use Rattle.theory.specs.Below.{Clear}
+use Rattle.theory.specs.Below.Scan.{scan}
 use Rattle.theory.specs.Ladder.{lowersAt}
-use Rattle.ladder.specs.Ladder.{ladderOf}
+use Rattle.format.specs.Format.{layerWeight, protocolOf, layersOf}
 use Rattle.ladder.proofs.lowering_fault.Statement.{statement}
 use Rattle.ladder.proofs.lowering_fault.Tie as tie
 
 abbrev Inv-loop : tie.InvT-loop
-Inv-loop rules layers z r₀ r = (r ≤ z .rules) × Clear (λ k. not (lowersAt (ladderOf z rules layers) k)) r
+Inv-loop states rules layers z r₀ r =
+    (r ≤ z .rules)
+    × Clear (λ k. not (lowersAt (protocolOf z states rules) (layersOf z rules) (layerWeight (z .states) layers) k)) r
 
 abbrev μ-loop : tie.MeasureT-loop
-μ-loop rules layers z r₀ r = z .rules - r
+μ-loop states rules layers z r₀ r = z .rules - r
 
 loop-holds : tie.Need-loop-holds Inv-loop μ-loop
 loop-holds c = search (scan, needs)

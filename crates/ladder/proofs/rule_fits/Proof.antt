@@ -4,7 +4,7 @@ use native.Mathlib.Omega.{arith}
 use borrow.Author.Needs.{needs}
 use Rattle.ladder.proofs.rule_fits.Statement.{statement}
 use Rattle.ladder.proofs.rule_fits.Tie as tie
-use Rattle.ladder.specs.Ladder.Laws.{fits-not-lower, fits-first-missing, fits-second-missing, fits-second, fits-not-first}
+use Rattle.ladder.specs.Code.Laws.{fits-not-lower, fits-first-missing, fits-second-missing, fits-second, fits-not-first}
 
 mul-at : tie.Need-mul-at
 mul-at c = search needs

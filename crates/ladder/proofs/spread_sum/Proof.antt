@@ -3,15 +3,16 @@ use mathlib.Core.Path.{_≡_}
 use Prim.Native.Nat.{_≤_, _-_, _*_}
 use Rattle.theory.specs.Below.{sumBelow}
 use Rattle.theory.specs.Ladder.{spread}
-use mathlib.Core.List.{[]}
-use Rattle.ladder.specs.Ladder.{ladderOf}
-use Rattle.ladder.specs.Ladder.Laws.{sum-none, sum-more, spreads-is}
+use Rattle.format.specs.Format.{layerWeight}
+use Rattle.theory.specs.Below.Scan.{sum-none, sum-more}
+use Rattle.ladder.specs.Code.Laws.{sum-done}
 use borrow.Author.Needs.{needs}
 use Rattle.ladder.proofs.spread_sum.Statement.{statement}
 use Rattle.ladder.proofs.spread_sum.Tie as tie
 
 abbrev Inv-loop : tie.InvT-loop
-Inv-loop layers z sum₀ l₀ sum l = (l ≤ z .layers) × ((sum ≤ 4294967295 * l) × (sum ≡ sumBelow l (spread (ladderOf z [] layers))))
+Inv-loop layers z sum₀ l₀ sum l =
+    (l ≤ z .layers) × ((sum ≤ 4294967295 * l) × (sum ≡ sumBelow l (λ k. spread (z .states) (layerWeight (z .states) layers k))))
 
 abbrev μ-loop : tie.MeasureT-loop
 μ-loop layers z sum₀ l₀ sum l = z .layers - l
@@ -38,7 +39,7 @@ loop-again : tie.Need-loop-again Inv-loop μ-loop
 loop-again c = search (sum-more, needs)
 
 returns : tie.Need-returns Inv-loop μ-loop
-returns c = search (spreads-is, needs)
+returns c = search (sum-done, needs)
 
 pub spread-sum-spec : {M : Type 1} → statement M
 spread-sum-spec =

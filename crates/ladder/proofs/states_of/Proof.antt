@@ -2,7 +2,7 @@
 use borrow.Author.Needs.{needs}
 use Rattle.ladder.proofs.states_of.Statement.{statement}
 use Rattle.ladder.proofs.states_of.Tie as tie
-use Rattle.ladder.specs.Ladder.Laws.{states-are}
+use Rattle.ladder.specs.Code.Laws.{states-are}
 
 single-requires : tie.Need-single-requires
 single-requires c κs = search needs

@@ -1,5 +1,5 @@
 -- A difference of natural numbers is 0 where it would be negative.
-use Rattle.leaf.specs.Leaf.Laws.{excesses}
+use Rattle.leaf.specs.Code.Laws.{excesses}
 use borrow.Author.Needs.{needs}
 use borrow.Author.Tests.{not-true, not-false}
 use Rattle.leaf.proofs.excess.Statement.{statement}

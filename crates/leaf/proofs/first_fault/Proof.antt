@@ -1,6 +1,7 @@
 -- No state below s has a weight outside the limits.
 use Prim.Native.Nat.{_≤_, _-_}
-use Rattle.theory.specs.Below.Scan.{Clear, scan}
+use Rattle.theory.specs.Below.{Clear}
+use Rattle.theory.specs.Below.Scan.{scan}
 use Rattle.leaf.specs.Leaf.{overLimit}
 use Rattle.leaf.specs.Leaf.Laws.{limits}
 use borrow.Author.Needs.{needs}

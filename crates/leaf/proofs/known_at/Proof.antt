@@ -2,7 +2,7 @@
 use borrow.Author.Needs.{needs}
 use Rattle.leaf.proofs.known_at.Statement.{statement}
 use Rattle.leaf.proofs.known_at.Tie as tie
-use Rattle.leaf.specs.Leaf.Laws.{known-is}
+use Rattle.leaf.specs.Code.Laws.{known-is}
 
 absent-requires : tie.Need-absent-requires
 absent-requires c κs = search needs

@@ -1,6 +1,7 @@
 -- No leaf below l is bad.
 use Prim.Native.Nat.{_≤_, _-_}
-use Rattle.theory.specs.Below.Scan.{Clear, scan}
+use Rattle.theory.specs.Below.{Clear}
+use Rattle.theory.specs.Below.Scan.{scan}
 use Rattle.leaf.specs.Leaf.{badLeaf}
 use borrow.Author.Needs.{needs}
 use Rattle.leaf.proofs.leaf_fault.Statement.{statement}

@@ -2,7 +2,7 @@
 use borrow.Author.Needs.{needs}
 use Rattle.leaf.proofs.share_at.Statement.{statement}
 use Rattle.leaf.proofs.share_at.Tie as tie
-use Rattle.leaf.specs.Leaf.Laws.{sharing}
+use Rattle.leaf.specs.Code.Laws.{sharing}
 
 leaf-weight-requires : tie.Need-leaf-weight-requires
 leaf-weight-requires c κs = search needs

@@ -2,7 +2,7 @@
 use borrow.Author.Needs.{needs}
 use Rattle.leaf.proofs.start_share.Statement.{statement}
 use Rattle.leaf.proofs.start_share.Tie as tie
-use Rattle.leaf.specs.Leaf.Laws.{sharing}
+use Rattle.leaf.specs.Code.Laws.{sharing}
 
 has-requires : tie.Need-has-requires
 has-requires c κs = search needs

@@ -1,6 +1,6 @@
 -- `machine::run` meets its contract: a refused shape is passed back.
 use Rattle.shape.specs.Sound.Laws.{sound-at}
-use Rattle.machine.specs.Calls.Laws.{called-then, called-else}
+use Rattle.machine.specs.Code.Laws.{replies-sound, replies-refused}
 use borrow.Author.Needs.{needs}
 use Rattle.machine.proofs.run.Statement.{statement}
 use Rattle.machine.proofs.run.Tie as tie
@@ -14,14 +14,11 @@ enum-known-shape c = search needs
 enum-told : tie.Need-enum-told
 enum-told c = search needs
 
-number-of-requires : tie.Need-number-of-requires
-number-of-requires c κs = search needs
-
-place-of-requires : tie.Need-place-of-requires
-place-of-requires c κs = search needs
+refusal-of-requires : tie.Need-refusal-of-requires
+refusal-of-requires c κs = search needs
 
 returns : tie.Need-returns
-returns c = search (called-else, needs)
+returns c = search (replies-refused, needs)
 
 run-in-requires : tie.Need-run-in-requires
 run-in-requires c κs = search (sound-at, needs)
@@ -30,7 +27,7 @@ same-length : tie.Need-same-length
 same-length c = search needs
 
 returns-2 : tie.Need-returns-2
-returns-2 c = search (called-then, needs)
+returns-2 c = search (replies-sound, needs)
 
 pub run-spec : {M : Type 1} → statement M
 run-spec =
@@ -39,8 +36,7 @@ run-spec =
     read-shape-requires
     enum-known-shape
     enum-told
-    number-of-requires
-    place-of-requires
+    refusal-of-requires
     returns
     run-in-requires
     same-length

@@ -1,6 +1,6 @@
 -- `machine::start_in` meets its contract: the counts, then the first state that is no input and is occupied.
 use Rattle.machine.specs.Calls.{startAnswer}
-use Rattle.machine.specs.Calls.Laws.{counts-refused, counts-passed, start-refused, start-passed}
+use Rattle.machine.specs.Code.Laws.{counts-refused, counts-passed, start-unfit, start-fit}
 use borrow.Author.Needs.{needs}
 use Rattle.machine.proofs.start_in.Statement.{statement}
 use Rattle.machine.proofs.start_in.Tie as tie
@@ -15,8 +15,8 @@ returns c = search (counts-refused, needs)
 occupied-requires : tie.Need-occupied-requires
 occupied-requires c κs = search needs
 
-states-part-requires : tie.Need-states-part-requires
-states-part-requires c κs = search needs
+states-section-requires : tie.Need-states-section-requires
+states-section-requires c κs = search needs
 
 flag-set-requires : tie.Need-flag-set-requires
 flag-set-requires c κs = search needs
@@ -29,11 +29,11 @@ lowest-requires c κs = search needs
 
 returns-2 : tie.Need-returns-2
 unfolding startAnswer
-returns-2 c = search (counts-passed, start-refused, needs)
+returns-2 c = search (counts-passed, start-unfit, needs)
 
 returns-3 : tie.Need-returns-3
 unfolding startAnswer
-returns-3 c = search (counts-passed, start-passed, needs)
+returns-3 c = search (counts-passed, start-fit, needs)
 
 pub start-in-spec : {M : Type 1} → statement M
 start-in-spec =
@@ -42,7 +42,7 @@ start-in-spec =
     counts-fault-requires
     returns
     occupied-requires
-    states-part-requires
+    states-section-requires
     flag-set-requires
     without-requires
     lowest-requires

@@ -15,11 +15,8 @@ enum-known-shape c = search needs
 enum-told : tie.Need-enum-told
 enum-told c = search needs
 
-number-of-requires : tie.Need-number-of-requires
-number-of-requires c κs = search needs
-
-place-of-requires : tie.Need-place-of-requires
-place-of-requires c κs = search needs
+refusal-of-requires : tie.Need-refusal-of-requires
+refusal-of-requires c κs = search needs
 
 returns : tie.Need-returns
 unfolding startOf
@@ -39,8 +36,7 @@ start-test-spec =
     read-shape-requires
     enum-known-shape
     enum-told
-    number-of-requires
-    place-of-requires
+    refusal-of-requires
     returns
     start-in-requires
     returns-2)

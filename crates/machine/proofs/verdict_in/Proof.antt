@@ -1,6 +1,6 @@
 -- `machine::verdict_in` meets its contract: the occupied states are apart from those of output 1, or among them.
 use Rattle.machine.specs.Calls.{verdictAnswer}
-use Rattle.machine.specs.Calls.Laws.{counts-refused, counts-passed, verdict-0, verdict-1, verdict-mixed}
+use Rattle.machine.specs.Code.Laws.{counts-refused, counts-passed, verdict-0, verdict-1, verdict-mixed}
 use borrow.Author.Needs.{needs}
 use Rattle.machine.proofs.verdict_in.Statement.{statement}
 use Rattle.machine.proofs.verdict_in.Tie as tie
@@ -15,8 +15,8 @@ returns c = search (counts-refused, needs)
 occupied-requires : tie.Need-occupied-requires
 occupied-requires c κs = search needs
 
-states-part-requires : tie.Need-states-part-requires
-states-part-requires c κs = search needs
+states-section-requires : tie.Need-states-section-requires
+states-section-requires c κs = search needs
 
 flag-set-requires : tie.Need-flag-set-requires
 flag-set-requires c κs = search needs
@@ -46,7 +46,7 @@ verdict-in-spec =
     counts-fault-requires
     returns
     occupied-requires
-    states-part-requires
+    states-section-requires
     flag-set-requires
     disjoint-requires
     returns-2

@@ -2,7 +2,7 @@
 use borrow.Author.Needs.{needs}
 use Rattle.node.proofs.breaking.Statement.{statement}
 use Rattle.node.proofs.breaking.Tie as tie
-use Rattle.node.specs.Node.Laws.{breaking-forward, breaking-reversed}
+use Rattle.node.specs.Code.Laws.{breaking-forward, breaking-reversed}
 
 without-requires : tie.Need-without-requires
 without-requires c κs = search needs

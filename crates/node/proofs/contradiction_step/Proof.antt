@@ -1,5 +1,5 @@
 -- The two words hold the state just where the facts say so.
-use Rattle.node.specs.Node.Laws.{contradiction-turn}
+use Rattle.node.specs.Code.Laws.{contradiction-turn}
 use borrow.Author.Needs.{needs}
 use Rattle.node.proofs.contradiction_step.Statement.{statement}
 use Rattle.node.proofs.contradiction_step.Tie as tie
@@ -19,8 +19,8 @@ absent-requires c κs = search needs
 has-requires-2 : tie.Need-has-requires-2
 has-requires-2 c κs = search needs
 
-settle-requires : tie.Need-settle-requires
-settle-requires c κs = search needs
+judge-requires : tie.Need-judge-requires
+judge-requires c κs = search needs
 
 returns : tie.Need-returns
 returns c = search (contradiction-turn, needs)
@@ -34,5 +34,5 @@ contradiction-step-spec =
     has-requires
     absent-requires
     has-requires-2
-    settle-requires
+    judge-requires
     returns)

@@ -1,8 +1,11 @@
 -- Good fields name a run and a rule, whose before pair are states; the marks then are those of the definition.
-use Rattle.node.specs.Node.Laws.{disabled-same, disabled-other}
+use Rattle.node.specs.Code.Laws.{disabled-same, disabled-other}
 use borrow.Author.Needs.{needs}
 use Rattle.node.proofs.disabled_step.Statement.{statement}
 use Rattle.node.proofs.disabled_step.Tie as tie
+
+names-rule-requires : tie.Need-names-rule-requires
+names-rule-requires c κs = search needs
 
 rule-p-requires : tie.Need-rule-p-requires
 rule-p-requires c κs = search needs
@@ -16,11 +19,11 @@ single-requires c κs = search needs
 mark-at-most-one-requires : tie.Need-mark-at-most-one-requires
 mark-at-most-one-requires c κs = search needs
 
-settle-requires : tie.Need-settle-requires
-settle-requires c κs = search needs
+judge-requires : tie.Need-judge-requires
+judge-requires c κs = search needs
 
 returns : tie.Need-returns
-returns c = let s = c .before .before .before .before .before .before .before .before .before .before .before .before .pre in search (disabled-same, needs) fits 5000
+returns c = search (disabled-same, needs)
 
 single-requires-2 : tie.Need-single-requires-2
 single-requires-2 c κs = search needs
@@ -34,25 +37,26 @@ single-requires-3 c κs = search needs
 mark-absent-requires-2 : tie.Need-mark-absent-requires-2
 mark-absent-requires-2 c κs = search needs
 
-settle-requires-2 : tie.Need-settle-requires-2
-settle-requires-2 c κs = search needs
+judge-requires-2 : tie.Need-judge-requires-2
+judge-requires-2 c κs = search needs
 
 returns-2 : tie.Need-returns-2
-returns-2 c = let s = c .before .before .before .before .before .before .before .before .before .before .before .before .before .before .pre in search (disabled-other, needs) fits 5000
+returns-2 c = search (disabled-other, needs)
 
 pub disabled-step-spec : {M : Type 1} → statement M
 disabled-step-spec =
     tie.close
     (tie.spec
+    names-rule-requires
     rule-p-requires
     rule-q-requires
     single-requires
     mark-at-most-one-requires
-    settle-requires
+    judge-requires
     returns
     single-requires-2
     mark-absent-requires
     single-requires-3
     mark-absent-requires-2
-    settle-requires-2
+    judge-requires-2
     returns-2)

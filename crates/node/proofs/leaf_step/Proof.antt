@@ -1,5 +1,5 @@
 -- The leaf rule of the code is the one of the definition.
-use Rattle.node.specs.Node.Laws.{leaf-turn}
+use Rattle.node.specs.Code.Laws.{leaf-turn}
 use borrow.Author.Needs.{needs}
 use Rattle.node.proofs.leaf_step.Statement.{statement}
 use Rattle.node.proofs.leaf_step.Tie as tie
@@ -7,11 +7,11 @@ use Rattle.node.proofs.leaf_step.Tie as tie
 leaf-closes-requires : tie.Need-leaf-closes-requires
 leaf-closes-requires c κs = search needs
 
-settle-requires : tie.Need-settle-requires
-settle-requires c κs = search needs
+judge-requires : tie.Need-judge-requires
+judge-requires c κs = search needs
 
 returns : tie.Need-returns
 returns c = search (leaf-turn, needs)
 
 pub leaf-step-spec : {M : Type 1} → statement M
-leaf-step-spec = tie.close (tie.spec leaf-closes-requires settle-requires returns)
+leaf-step-spec = tie.close (tie.spec leaf-closes-requires judge-requires returns)

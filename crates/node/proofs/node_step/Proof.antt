@@ -1,5 +1,5 @@
 -- Each arm is the node of its kind; beyond kind 6 the node is bad.
-use Rattle.node.specs.Node.Laws.{kinds, kind-unknown}
+use Rattle.node.specs.Code.Laws.{kinds, kind-unknown}
 use borrow.Author.Needs.{needs}
 use Rattle.node.proofs.node_step.Statement.{statement}
 use Rattle.node.proofs.node_step.Tie as tie
@@ -28,8 +28,8 @@ set-step-requires c κs = search needs
 set-step-requires-2 : tie.Need-set-step-requires-2
 set-step-requires-2 c κs = search needs
 
-settle-requires : tie.Need-settle-requires
-settle-requires c κs = search needs
+judge-requires : tie.Need-judge-requires
+judge-requires c κs = search needs
 
 returns : tie.Need-returns
 returns c = search (kinds, needs)
@@ -67,7 +67,7 @@ node-step-spec =
     split-step-requires
     set-step-requires
     set-step-requires-2
-    settle-requires
+    judge-requires
     returns
     returns-2
     returns-3

@@ -1,5 +1,5 @@
 -- Good fields name a party and a state; the marks then are those of the definition.
-use Rattle.node.specs.Node.Laws.{split-turn}
+use Rattle.node.specs.Code.Laws.{split-turn}
 use borrow.Author.Needs.{needs}
 use Rattle.node.proofs.split_step.Statement.{statement}
 use Rattle.node.proofs.split_step.Tie as tie
@@ -16,8 +16,8 @@ mark-absent-requires c κs = search needs
 mark-present-requires : tie.Need-mark-present-requires
 mark-present-requires c κs = search needs
 
-settle-requires : tie.Need-settle-requires
-settle-requires c κs = search needs
+judge-requires : tie.Need-judge-requires
+judge-requires c κs = search needs
 
 returns : tie.Need-returns
 returns c = search (split-turn, needs)
@@ -30,5 +30,5 @@ split-step-spec =
     single-requires
     mark-absent-requires
     mark-present-requires
-    settle-requires
+    judge-requires
     returns)

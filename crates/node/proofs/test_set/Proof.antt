@@ -1,27 +1,28 @@
--- The rules below 64 word are unused or keep the set, just where the test says so, and those that touch the set are marked.
+-- The rules below 64 word are unused or preserve the set, just where the test says so, and those that touch it are
+-- marked.
 use borrow.Author.Needs.{needs}
 use Rattle.node.proofs.test_set.Statement.{statement}
 use Rattle.node.proofs.test_set.Tie as tie
 use mathlib.Core.Path.{_≡_}
 use Prim.Native.Nat.{_≤_, _-_}
-use Rattle.theory.specs.Test.{member}
+use Rattle.theory.specs.Bool.{member}
 use Rattle.theory.specs.Tree.{touches}
-use Rattle.facts.specs.Facts.{factsOf}
-use Rattle.facts.specs.Facts.Laws.{MarkedBelow, marked-none}
-use Rattle.node.specs.Node.{nodeTable}
-use Rattle.node.specs.Node.Laws.{keptBelow, kept, touched-more, touched-end}
+use Rattle.format.specs.Format.{protocolOf}
+use Rattle.facts.specs.Code.{factsOf}
+use Rattle.facts.specs.Code.Laws.{MarkedBelow}
+use Rattle.node.specs.Code.Laws.{preservedBelow, preserved, touched}
 
 abbrev Inv-loop : tie.InvT-loop
-Inv-loop rules z facts run set reversed trap₀ child₀ word₀ trap child word =
+Inv-loop states rules z facts run set reversed trap₀ child₀ word₀ trap child word =
     (word ≤ 4)
-    × (trap ≡ keptBelow reversed z rules (factsOf facts .unused run) (member set) word)
-    × MarkedBelow (factsOf child₀) run (touches (nodeTable z rules 0) (member set)) word (factsOf child)
+    × (trap ≡ preservedBelow reversed (protocolOf z states rules) (factsOf facts .unused run) (member set) word)
+    × MarkedBelow (factsOf child₀) run (touches (protocolOf z states rules) (member set)) word (factsOf child)
 
 abbrev μ-loop : tie.MeasureT-loop
-μ-loop rules z facts run set reversed trap₀ child₀ word₀ trap child word = 4 - word
+μ-loop states rules z facts run set reversed trap₀ child₀ word₀ trap child word = 4 - word
 
 loop-holds : tie.Need-loop-holds Inv-loop μ-loop
-loop-holds c = search (kept, marked-none, needs)
+loop-holds c = search (preserved, touched, needs)
 
 mul-if1 : tie.Need-mul-if1 Inv-loop μ-loop
 mul-if1 c = search needs
@@ -57,10 +58,10 @@ loop-less : tie.Need-loop-less Inv-loop μ-loop
 loop-less c = search needs
 
 loop-again : tie.Need-loop-again Inv-loop μ-loop
-loop-again c = search (kept, touched-more, needs)
+loop-again c = search (preserved, touched, needs)
 
 returns : tie.Need-returns Inv-loop μ-loop
-returns c = search (kept, touched-end, needs)
+returns c = search (preserved, touched, needs)
 
 pub test-set-spec : {M : Type 1} → statement M
 test-set-spec =

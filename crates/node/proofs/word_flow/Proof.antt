@@ -2,20 +2,20 @@
 use borrow.Author.Needs.{needs}
 use Rattle.node.proofs.word_flow.Statement.{statement}
 use Rattle.node.proofs.word_flow.Tie as tie
-use Prim.Native.Nat.{_+_, _-_, _*_, _≤_, _<_}
-use Rattle.theory.specs.Test.{member}
-use Rattle.node.specs.Node.{takesFrom, putsInto}
-use Rattle.node.specs.Node.Laws.{ruleStates, Gathered, gathered, taking-more, putting-more}
-use denote.Ref.{now}
+use Prim.Native.Nat.{_-_, _≤_}
+use Rattle.theory.specs.Bool.{member}
+use Rattle.format.specs.Format.{protocolOf}
+use Rattle.node.specs.Code.Laws.{ruleStates, FlowBelow, flows}
 
 abbrev Inv-loop : tie.InvT-loop
-Inv-loop rules z set word taking₀ putting₀ i₀ taking putting i = (i ≤ 64) × Gathered z (takesFrom rules (member set)) word i taking × Gathered z (putsInto rules (member set)) word i putting
+Inv-loop states rules z set word taking₀ putting₀ i₀ taking putting i =
+    (i ≤ 64) × FlowBelow (protocolOf z states rules) (member set) word i taking putting
 
 abbrev μ-loop : tie.MeasureT-loop
-μ-loop rules z set word taking₀ putting₀ i₀ taking putting i = 64 - i
+μ-loop states rules z set word taking₀ putting₀ i₀ taking putting i = 64 - i
 
 loop-holds : tie.Need-loop-holds Inv-loop μ-loop
-loop-holds c = search (gathered, needs)
+loop-holds c = search (flows, needs)
 
 mul-r : tie.Need-mul-r Inv-loop μ-loop
 mul-r c = search needs
@@ -57,21 +57,13 @@ loop-less : tie.Need-loop-less Inv-loop μ-loop
 loop-less c = search needs
 
 loop-again : tie.Need-loop-again Inv-loop μ-loop
-loop-again c =
-    let a = c .before .before .before .before .before .before .before .before .before .before .before .before .args in
-    let l = c .before .before .before .before .before .before .before .before .before .before .loop in
-    let below : 64 * a .word + l .i < a .z .rules = search needs in
-    let rule = c .before .before .before .before .before .before .read-rule .ensures in (
-      search needs,
-      taking-more (a .z) (now (a .rules)) (member (a .set)) (a .word) (l .i) _ _ _ _ _ rule (c .before .with-if .ensures) below (l .inv .1) (c .before .before .before .before .before .has-below .ensures) (c .before .before .before .before .has-below2 .ensures),
-      putting-more (a .z) (now (a .rules)) (member (a .set)) (a .word) (l .i) _ _ _ _ _ rule (c .with-if2 .ensures) below (l .inv .2) (c .before .before .before .has-below3 .ensures) (c .before .before .has-below4 .ensures),
-    )
+loop-again c = search (flows, needs)
 
 returns : tie.Need-returns Inv-loop μ-loop
-returns c = record { taking = search (gathered, needs); putting = search (gathered, needs) }
+returns c = search (flows, needs)
 
 returns-2 : tie.Need-returns-2 Inv-loop μ-loop
-returns-2 c = record { taking = search (gathered, needs); putting = search (gathered, needs) }
+returns-2 c = search (flows, needs)
 
 pub word-flow-spec : {M : Type 1} → statement M
 word-flow-spec =

@@ -1,8 +1,9 @@
 -- `shape::first` meets its contract: the test holds of no record below `i`.
 use Prim.Native.Nat.{_≤_, _-_}
 use borrow.Author.Needs.{needs}
-use Rattle.theory.specs.Below.Scan.{Clear, scan}
-use Rattle.shape.specs.Shape.{holdsOf}
+use Rattle.theory.specs.Below.{Clear}
+use Rattle.theory.specs.Below.Scan.{scan}
+use Rattle.shape.specs.Code.{holdsOf}
 use Rattle.shape.proofs.first.Statement.{statement}
 use Rattle.shape.proofs.first.Tie as tie
 

@@ -24,17 +24,8 @@ rule-bad-requires c κs = search needs
 enum-known-t : tie.Need-enum-known-t
 enum-known-t c = search needs
 
-rule-p-requires : tie.Need-rule-p-requires
-rule-p-requires c κs = search needs
-
-rule-p-requires-2 : tie.Need-rule-p-requires-2
-rule-p-requires-2 c κs = search needs
-
-rule-q-requires : tie.Need-rule-q-requires
-rule-q-requires c κs = search needs
-
-rule-q-requires-2 : tie.Need-rule-q-requires-2
-rule-q-requires-2 c κs = search needs
+same-pair-requires : tie.Need-same-pair-requires
+same-pair-requires c κs = search needs
 
 enum-known-t-2 : tie.Need-enum-known-t-2
 enum-known-t-2 c = search needs
@@ -61,7 +52,7 @@ returns-3 : tie.Need-returns-3
 returns-3 c = rw (c .before .enum-told3 .given .1) (cc)
 
 returns-4 : tie.Need-returns-4
-returns-4 c = rw (c .before .before .before .before .before .t .given .1) (cc)
+returns-4 c = rw (c .before .before .t .given .1) (cc)
 
 returns-5 : tie.Need-returns-5
 returns-5 c = rw (c .before .before .t2 .given .1) (cc)
@@ -80,10 +71,7 @@ holds-spec =
     enum-told-3
     rule-bad-requires
     enum-known-t
-    rule-p-requires
-    rule-p-requires-2
-    rule-q-requires
-    rule-q-requires-2
+    same-pair-requires
     enum-known-t-2
     rule-layer-requires
     cast-result

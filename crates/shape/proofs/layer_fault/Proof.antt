@@ -3,7 +3,8 @@ use borrow.Author.Needs.{needs}
 use Rattle.shape.proofs.layer_fault.Statement.{statement}
 use Rattle.shape.proofs.layer_fault.Tie as tie
 use Prim.Native.Nat.{_≤_, _-_}
-use Rattle.theory.specs.Below.Scan.{Clear, scan}
+use Rattle.theory.specs.Below.{Clear}
+use Rattle.theory.specs.Below.Scan.{scan}
 use Rattle.shape.specs.Shape.{badLayer}
 
 abbrev Inv-loop : tie.InvT-loop

@@ -1,7 +1,6 @@
 -- `shape::rule_bad` meets its contract: the fields are those of the record.
-use mathlib.Core.Path.{ap}
 use borrow.Author.Needs.{needs}
-use Rattle.shape.specs.Shape.{badFields}
+use Rattle.shape.specs.Shape.Laws.{bad-read}
 use Rattle.shape.proofs.rule_bad.Statement.{statement}
 use Rattle.shape.proofs.rule_bad.Tie as tie
 
@@ -15,7 +14,7 @@ cast-m : tie.Need-cast-m
 cast-m c = search needs
 
 returns : tie.Need-returns
-returns c = ap (badFields (c .before .before .before .before .before .before .before .before .before .before .before .before .before .args .z)) (c .before .before .before .before .before .before .before .before .before .before .before .read-rule .ensures)
+returns c = search (bad-read, needs)
 
 pub rule-bad-spec : {M : Type 1} → statement M
 rule-bad-spec = tie.close (tie.spec read-rule-requires cast-n cast-m returns)

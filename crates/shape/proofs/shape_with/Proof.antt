@@ -1,6 +1,6 @@
 -- `shape::shape_with` meets its contract: each arm is the definition's case.
 use mathlib.Core.Path.{sym, ap}
-use Rattle.shape.specs.Shape.{asShape}
+use Rattle.shape.specs.Code.{asShape}
 use borrow.Author.Needs.{needs}
 use Rattle.shape.proofs.shape_with.Statement.{statement}
 use Rattle.shape.proofs.shape_with.Tie as tie

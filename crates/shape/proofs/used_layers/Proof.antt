@@ -4,8 +4,8 @@ use Rattle.shape.proofs.used_layers.Statement.{statement}
 use Rattle.shape.proofs.used_layers.Tie as tie
 use Prim.Native.Nat.{_≤_, _-_}
 use mathlib.Core.Path.{_≡_}
-use Rattle.theory.specs.Test.{member}
-use Rattle.shape.specs.Shape.{usedBelow}
+use Rattle.theory.specs.Bool.{member}
+use Rattle.shape.specs.Code.{usedBelow}
 use Rattle.shape.specs.Shape.Marks.{used-none, used-more, used-done}
 
 abbrev Inv-loop : tie.InvT-loop

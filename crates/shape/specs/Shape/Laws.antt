@@ -1,6 +1,6 @@
 -- Laws for the functions of the shape. Assumes nothing.
 use mathlib.Core.Path.{_≡_, refl, sym, ap, _∙_}
-use mathlib.Core.Bool.{Bool, true, false, not, _||_}
+use mathlib.Core.Bool.{Bool, true, false, not, _&&_, _||_, or-false}
 use mathlib.Core.List.{List, [], _∷_, _++_}
 use Prim.Native.Nat.{ℕ, suc, _+_, _-_, _≤_, _<_}
 use native.Mathlib.Decide.{decLt}
@@ -9,22 +9,61 @@ use mathlib.Core.Logic.{by-cases}
 use borrow.Author.Tests.{lt-ltb, le-ltb, eq-eqb, ne-eqb, eqb-true, eqb-false}
 use lib.Dec.{ltb, eqb}
 use lib.ListN.{length}
-use Rattle.theory.specs.Test.Laws.{by-test}
+use Rattle.theory.specs.Bool.Laws.{by-test, is-false}
 use Rattle.theory.specs.Below.{firstBelow, anyBelow}
-use Rattle.theory.specs.Below.Laws.{first-is, first-passes, first-lowest}
+use Rattle.theory.specs.Below.Laws.{first-is, first-passes, first-lowest, any-elim}
 use Rattle.theory.specs.Below.Scan.{first-any, found}
-use Rattle.format.specs.Format.{partsOf}
+use Rattle.format.specs.Format.{sectionsOf, isInput, ruleP, ruleQ, ruleOf}
+use Rattle.format.specs.Code.{sections}
 use Rattle.format.specs.declared.Sizes.{Sizes}
 use Rattle.format.specs.declared.Header.{Header}
-use Rattle.shape.specs.Judge.{judge}
-use Rattle.shape.specs.Judge.Laws.{judge-map}
-use Rattle.shape.specs.Shape.{nth, otherBits, isInput, samePair, inLayer, tooLarge, badState, repeats, badLayer, partTests, partOutcome, asShape, onShape, numberOf, placeOf}
-use Rattle.shape.specs.declared.Outcome.{Outcome}
-use Rattle.shape.specs.declared.Outcome.the-variants.{Passed, Failed}
+use Rattle.format.specs.declared.Rule.{Rule}
+use Rattle.theory.specs.Judge.{judge}
+use Rattle.theory.specs.Judge.Laws.{judge-map}
+use Rattle.shape.specs.Shape.{refusal, nth, otherBits, samePair, inLayer, tooLarge, badState, badFields, badRule, repeats, badLayer}
+use Rattle.shape.specs.Shape.{sectionTests, byShape}
+use Rattle.shape.specs.Code.{testedOf, asShape, refusalOf}
+use Rattle.shape.specs.declared.Refusal.{Refusal}
+use Rattle.shape.specs.declared.Tested.{Tested}
+use Rattle.shape.specs.declared.Tested.the-variants.{Passed, Failed}
 use Rattle.shape.specs.declared.Shape.{Shape}
 use Rattle.shape.specs.declared.Shape.the-variants.{Sound, Refused}
 
 -- ---- The first true of a list
+
+module _ (a b c d e f : Bool) where
+  abbrev first : ℕ
+  first = firstBelow 6 (nth (a ∷ b ∷ c ∷ d ∷ e ∷ f ∷ []))
+
+  pub first-a : a ≡ true → 0 ≡ first
+  unfolding firstBelow
+  first-a ha = rw (ha, firstBelow)
+
+  pub first-b : a ≡ false → b ≡ true → 1 ≡ first
+  unfolding firstBelow
+  first-b ha hb = rw (ha, hb, firstBelow)
+
+  pub first-c : a ≡ false → b ≡ false → c ≡ true → 2 ≡ first
+  unfolding firstBelow
+  first-c ha hb hc = rw (ha, hb, hc, firstBelow)
+
+  pub first-d : a ≡ false → b ≡ false → c ≡ false → d ≡ true → 3 ≡ first
+  unfolding firstBelow
+  first-d ha hb hc hd = rw (ha, hb, hc, hd, firstBelow)
+
+  pub first-e : a ≡ false → b ≡ false → c ≡ false → d ≡ false → e ≡ true → 4 ≡ first
+  unfolding firstBelow
+  first-e ha hb hc hd he = rw (ha, hb, hc, hd, he, firstBelow)
+
+  pub first-f : a ≡ false → b ≡ false → c ≡ false → d ≡ false → e ≡ false → f ≡ true → 5 ≡ first
+  unfolding firstBelow
+  first-f ha hb hc hd he hf = rw (ha, hb, hc, hd, he, hf, firstBelow)
+
+  pub first-none : a ≡ false → b ≡ false → c ≡ false → d ≡ false → e ≡ false → f ≡ false → 6 ≡ first
+  unfolding firstBelow
+  first-none ha hb hc hd he hf = rw (ha, hb, hc, hd, he, hf, firstBelow)
+
+pub ruleset firstTrue = (first-a, first-b, first-c, first-d, first-e, first-f, first-none)
 
 -- A true entry at the end changes nothing.
 last-true : (ts : List Bool) → firstBelow (suc (length ts)) (nth (ts ++ (true ∷ []))) ≡ firstBelow (length ts) (nth ts)
@@ -33,12 +72,8 @@ last-true [] = refl
 last-true (true ∷ ts) = refl
 last-true (false ∷ ts) = ap suc (last-true ts)
 
-pub first-of-five : (r : ℕ) (a b c d e : Bool) → r ≡ firstBelow 6 (nth (a ∷ b ∷ c ∷ d ∷ e ∷ true ∷ [])) → r ≡ firstBelow 5 (nth (a ∷ b ∷ c ∷ d ∷ e ∷ []))
-first-of-five r a b c d e h = h ∙ last-true (a ∷ b ∷ c ∷ d ∷ e ∷ [])
-
-or-false : (t : Bool) → t || false ≡ t
-or-false true = refl
-or-false false = refl
+pub five-of-six : (r : ℕ) (a b c d e : Bool) → r ≡ firstBelow 6 (nth (a ∷ b ∷ c ∷ d ∷ e ∷ true ∷ [])) → r ≡ firstBelow 5 (nth (a ∷ b ∷ c ∷ d ∷ e ∷ []))
+five-of-six r a b c d e h = h ∙ last-true (a ∷ b ∷ c ∷ d ∷ e ∷ [])
 
 -- ---- Offsets
 
@@ -56,69 +91,86 @@ past-start k n m h =
 -- ---- The state test
 
 module _ (z : Sizes) (states : List ℕ) where
-  bad-below : (s : ℕ) → s < z .states → badState z states s ≡ otherBits states s
+  bad-below : (s : ℕ) → s < z .states → badState z states s ≡ otherBits z states s
   unfolding badState
-  bad-below s l = rw (lt-ltb s (z .states) l, ne-eqb s (z .states) (λ e. omega arith)) (or-false (otherBits states s))
+  bad-below s l = rw (lt-ltb s (z .states) l, ne-eqb s (z .states) (λ e. omega arith)) (or-false (otherBits z states s))
 
-  bad-end : badState z states (z .states) ≡ not (anyBelow (z .states) (isInput states))
+  bad-end : badState z states (z .states) ≡ not (anyBelow (z .states) (isInput z states))
   unfolding badState
   bad-end = rw (le-ltb (z .states) (z .states) (omega arith), eq-eqb (z .states) (z .states) refl)
 
   -- s is the first state with other bits set.
-  module _ (s : ℕ) (e : s ≡ firstBelow (z .states) (otherBits states)) where
-    pub state-bits : s < z .states → s ≡ firstBelow (z .states + 1) (badState z states)
-    state-bits l =
+  module _ (s : ℕ) (e : s ≡ firstBelow (z .states) (otherBits z states)) where
+    pub first-other-bits : s < z .states → s ≡ firstBelow (z .states + 1) (badState z states)
+    first-other-bits l =
         sym (first-is (z .states + 1) (badState z states) s (omega arith)
-        (λ k m. bad-below k (omega arith) ∙ first-lowest (z .states) (otherBits states) k (omega arith))
-        (λ _. bad-below s l ∙ ap (otherBits states) e ∙ first-passes (z .states) (otherBits states) (omega arith)))
+        (λ k m. bad-below k (omega arith) ∙ first-lowest (z .states) (otherBits z states) k (omega arith))
+        (λ _. bad-below s l ∙ ap (otherBits z states) e ∙ first-passes (z .states) (otherBits z states) (omega arith)))
 
     -- There is none, and i is the first input state.
-    module _ (i : ℕ) (d : i ≡ firstBelow (z .states) (isInput states)) (none : z .states ≤ s) where
+    module _ (i : ℕ) (d : i ≡ firstBelow (z .states) (isInput z states)) (none : z .states ≤ s) where
       clear : (k : ℕ) → k < z .states → badState z states k ≡ false
-      clear k l = bad-below k l ∙ first-lowest (z .states) (otherBits states) k (omega arith)
+      clear k l = bad-below k l ∙ first-lowest (z .states) (otherBits z states) k (omega arith)
 
       at-end : (t : Bool) → ltb i (z .states) ≡ t → badState z states (z .states) ≡ not t
-      at-end t h = bad-end ∙ ap not (sym (first-any (z .states) (isInput states)) ∙ ap (λ n. ltb n (z .states)) (sym d) ∙ h)
+      at-end t h = bad-end ∙ ap not (sym (first-any (z .states) (isInput z states)) ∙ ap (λ n. ltb n (z .states)) (sym d) ∙ h)
 
-      pub state-inputs : i < z .states → z .states + 1 ≡ firstBelow (z .states + 1) (badState z states)
-      state-inputs l =
+      pub first-beyond : i < z .states → z .states + 1 ≡ firstBelow (z .states + 1) (badState z states)
+      first-beyond l =
           sym (first-is (z .states + 1) (badState z states) (z .states + 1) (omega arith)
           (λ k m. by-cases (decLt k (z .states)) (clear k)
           (λ g. let q : k ≡ z .states = omega arith in ap (badState z states) q ∙ at-end true (lt-ltb _ _ l)))
           (λ m. absurd (omega arith)))
 
-      pub state-no-input : z .states ≤ i → z .states ≡ firstBelow (z .states + 1) (badState z states)
-      state-no-input l = sym (first-is (z .states + 1) (badState z states) (z .states) (omega arith) clear (λ _. at-end false (le-ltb _ _ l)))
+      pub first-no-input : z .states ≤ i → z .states ≡ firstBelow (z .states + 1) (badState z states)
+      first-no-input l = sym (first-is (z .states + 1) (badState z states) (z .states) (omega arith) clear (λ _. at-end false (le-ltb _ _ l)))
 
 -- ---- The rule and layer tests
+
+-- The rule x has been read.
+pub bad-read : (z : Sizes) (rules : List ℕ) (r : ℕ) (x : Rule) (t : Bool) → x ≡ ruleOf rules r → t ≡ badFields z x → t ≡ badRule z rules r
+bad-read z rules r x t e h = h ∙ ap (badFields z) e
+
+pub pair-read : (rules : List ℕ) (r e : ℕ) (x y : Rule) (t : Bool) → x ≡ ruleOf rules e → y ≡ ruleOf rules r
+    → t ≡ (eqb (x .p) (y .p) && eqb (x .q) (y .q)) → t ≡ samePair rules r e
+pair-read rules r e x y t a b h =
+    h
+    ∙ ap (λ (v : Rule). eqb (v .p) (y .p) && eqb (v .q) (y .q)) a
+    ∙ ap (λ (v : Rule). eqb (ruleP rules e) (v .p) && eqb (ruleQ rules e) (v .q)) b
 
 pub repeats-found : (rules : List ℕ) (r k : ℕ) → k ≡ firstBelow r (samePair rules r) → ltb k r ≡ repeats rules r
 unfolding repeats
 repeats-found rules r k = found r (samePair rules r) k
 
-pub layer-found : (z : Sizes) (rules layers : List ℕ) (l j : ℕ) (t : Bool) → t ≡ anyBelow (z .rules) (inLayer rules l) → j ≡ firstBelow (z .states) (tooLarge (z .states) layers l)
+pub repeats-none : (rules : List ℕ) (r : ℕ) → ((e : ℕ) → e < r → samePair rules r e ≡ true → ⊥) → repeats rules r ≡ false
+unfolding repeats
+repeats-none rules r h = is-false _ (λ t. let s = any-elim r (samePair rules r) t in h (s .0) (s .1) (s .2))
+
+pub layer-found : (z : Sizes) (rules layers : List ℕ) (l j : ℕ) (t : Bool) → t ≡ anyBelow (z .rules) (inLayer rules l)
+    → j ≡ firstBelow (z .states) (tooLarge (z .states) layers l)
     → not t || ltb j (z .states) ≡ badLayer z rules layers l
 unfolding badLayer
 layer-found z rules layers l j t e d = rw (e, found (z .states) (tooLarge (z .states) layers l) j d)
 
 -- ---- The whole
 
-pub shape-parts : (b : List ℕ) (h : Header) (states rules layers : List ℕ) (o : Outcome) (r : Shape)
-    → states ≡ partsOf b h .states → rules ≡ partsOf b h .rules → layers ≡ partsOf b h .layers
-    → o ≡ partOutcome (h .sizes) states rules layers → r ≡ asShape h o
-    → r ≡ judge Refused (Sound h) (partTests (h .sizes) (partsOf b h .states) (partsOf b h .rules) (partsOf b h .layers))
-unfolding partOutcome
-shape-parts b h states rules layers o r s u l e d = rw (← s, ← u, ← l) (d ∙ ap (asShape h) e ∙ judge-map (asShape h) Failed Passed (partTests (h .sizes) states rules layers))
+pub tested-shape : (b : List ℕ) (h : Header) (states rules layers : List ℕ) (o : Tested) (r : Shape)
+    → states ≡ sectionsOf b h .states → rules ≡ sectionsOf b h .rules → layers ≡ sectionsOf b h .layers
+    → o ≡ testedOf (h .sizes) states rules layers → r ≡ asShape h o
+    → r ≡ judge (λ n k. Refused (refusal n k)) (Sound h) (sectionTests (h .sizes) (sectionsOf b h))
+unfolding testedOf
+tested-shape b h states rules layers o r s u l e d =
+    rw (← s, ← u, ← l)
+    (d ∙ ap (asShape h) e
+    ∙ judge-map (asShape h) (λ n k. Failed (refusal n k)) Passed
+    (sectionTests (h .sizes) (sections states rules layers [] [])))
 
 -- ---- Callers
 
--- A caller that takes the shape s apart follows onShape.
-module _ {A : Type 0} (refuse : ℕ → ℕ → A) (f : Header → A) (a : A) (s t : Shape) (e : s ≡ t) where
-  pub sound-then : (h : Header) → s ≡ Sound h → a ≡ f h → a ≡ onShape refuse f t
-  sound-then h u g = g ∙ ap (onShape refuse f) (sym u ∙ e)
+-- A caller that takes the shape s apart follows byShape.
+module _ {A : Type 0} (refuse : Refusal → A) (f : Header → A) (a : A) (s t : Shape) (e : s ≡ t) where
+  pub sound-then : (h : Header) → s ≡ Sound h → a ≡ f h → a ≡ byShape refuse f t
+  sound-then h u g = g ∙ ap (byShape refuse f) (sym u ∙ e)
 
-  pub sound-else : (n k number place : ℕ) → s ≡ Refused n k → number ≡ numberOf s → place ≡ placeOf s → a ≡ refuse number place → a ≡ onShape refuse f t
-  sound-else n k number place u p q g =
-      let pn : number ≡ n = p ∙ ap numberOf u in
-      let qk : place ≡ k = q ∙ ap placeOf u in
-      g ∙ ap (λ i. refuse i place) pn ∙ ap (refuse n) qk ∙ ap (onShape refuse f) (sym u ∙ e)
+  pub sound-else : (r q : Refusal) → s ≡ Refused r → q ≡ refusalOf s → a ≡ refuse q → a ≡ byShape refuse f t
+  sound-else r q u p g = g ∙ ap refuse (p ∙ ap refusalOf u) ∙ ap (byShape refuse f) (sym u ∙ e)

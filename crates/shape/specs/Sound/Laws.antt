@@ -8,20 +8,25 @@ use native.Mathlib.Omega.{arith}
 use borrow.Author.Tests.{ltb-true, ltb-false, leb-false, eqb-true, eqb-false, eq-eqb, lt-ltb, le-ltb, lt-leb, not-true, not-false}
 use lib.Dec.{leb, ltb, eqb}
 use lib.ListN.{length, length-take, length-drop}
-use Rattle.theory.specs.Test.Laws.{not-both, is-true, is-false, and-elim, and-intro, and-fails, or-fails, or-none}
-use Rattle.theory.specs.Below.{anyBelow}
+use Rattle.theory.specs.Bool.Laws.{not-both, is-true, is-false, and-elim, and-intro, and-fails, or-fails, or-none}
+use Rattle.theory.specs.Below.{anyBelow, Clear}
 use Rattle.theory.specs.Below.Laws.{any-elim, any-intro, any-fails}
-use Rattle.theory.specs.Below.Scan.{Clear}
 use Rattle.theory.specs.Protocol.{WellFormed}
-use Rattle.format.specs.Bytes.{part}
-use Rattle.format.specs.Format.{headerOf, partsOf, flags, ruleP, ruleQ, ruleP′, ruleQ′, ruleLayer, layerWeight, protocolOf}
+use Rattle.theory.specs.Ladder.{OrderedPartition}
+use Rattle.format.specs.Bytes.{section}
+use Rattle.format.specs.Format.{headerOf, Sections, sectionsOf, flags, isInput, ruleP, ruleQ, ruleP′, ruleQ′, ruleLayer, layerWeight}
+use Rattle.format.specs.Format.{protocolOf, layersOf}
 use Rattle.format.specs.declared.Sizes.{Sizes}
 use Rattle.format.specs.declared.Header.{Header}
-use Rattle.shape.specs.Judge.Laws.{Passes, judge-passes, passes-judge}
-use Rattle.shape.specs.Shape.{countFaults, offsetFaults, nth, otherBits, isInput, samePair, inLayer, tooLarge, badState, badRule, repeats, badLayer, partTests, shapeTests, headerShape, shapeOf}
+use Rattle.theory.specs.Judge.{Passes}
+use Rattle.theory.specs.Judge.Laws.{judge-passes, passes-judge}
+use Rattle.shape.specs.Shape.{refusal, countFaults, offsetFaults, nth, otherBits, samePair, inLayer, tooLarge, badState, badRule, repeats, badLayer}
+use Rattle.shape.specs.Shape.{sectionTests, shapeTests, headerShape, shapeOf}
+use Rattle.shape.specs.declared.Refusal.{Refusal}
 use Rattle.shape.specs.declared.Shape.{Shape}
 use Rattle.shape.specs.declared.Shape.the-variants.{Sound, Refused}
-use Rattle.shape.specs.Sound.{Limits, Laid, SoundParts, SoundShape, Lengths}
+use Rattle.shape.specs.Sound.{Limits, Laid, SoundSections, SoundShape}
+use Rattle.shape.specs.Code.{Lengths}
 
 -- ---- From the tests to the words
 
@@ -52,21 +57,31 @@ module _ (z : Sizes) where
         leaves-most = ltb-false _ _ (clear 4 (omega arith));
       }
 
-  module _ (states rules layers : List ℕ) where
+  module _ (x : Sections) where
+    abbrev states : List ℕ
+    states = x .states
+
+    abbrev rules : List ℕ
+    rules = x .rules
+
+    abbrev layers : List ℕ
+    layers = x .layers
+
     -- Test 5.
-    state-clear : Clear (badState z states) (z .states + 1) → ((s : ℕ) → s < z .states → otherBits states s ≡ false) × (anyBelow (z .states) (isInput states) ≡ true)
+    state-clear : Clear (badState z states) (z .states + 1) → ((s : ℕ) → s < z .states → otherBits z states s ≡ false)
+        × (anyBelow (z .states) (isInput z states) ≡ true)
     unfolding badState
     state-clear clear = (
       λ s l.
-          let f = or-fails (ltb s (z .states) && otherBits states s) (at-end s) (clear s (omega arith)) in
+          let f = or-fails (ltb s (z .states) && otherBits z states s) (at-end s) (clear s (omega arith)) in
           is-false _ (λ e. not-both (and-intro _ _ (lt-ltb _ _ l) e) (f .0)),
       let n = z .states in
-          let f = or-fails (ltb n n && otherBits states n) (at-end n) (clear n (omega arith)) in
+          let f = or-fails (ltb n n && otherBits z states n) (at-end n) (clear n (omega arith)) in
           is-true _ (λ e. not-both (and-intro _ _ (eq-eqb n n refl) (ap not e)) (f .1)),
     )
       where
         at-end : ℕ → Bool
-        at-end s = eqb s (z .states) && not (anyBelow (z .states) (isInput states))
+        at-end s = eqb s (z .states) && not (anyBelow (z .states) (isInput z states))
 
     -- Test 7.
     pair-clear : Clear (repeats rules) (z .rules) → (e r : ℕ) → e < r → r < z .rules → ruleP rules e ≡ ruleP rules r → ruleQ rules e ≡ ruleQ rules r → ⊥
@@ -128,8 +143,8 @@ module _ (z : Sizes) where
         (lt-leb _ _ (g .layer-lt))
 
     -- Tests 5 to 8.
-    sound-parts : Passes (partTests z states rules layers) → SoundParts z states rules layers
-    sound-parts (t5, (t6, (t7, (t8, end)))) =
+    sound-sections : Passes (sectionTests z x) → SoundSections z x
+    sound-sections (t5, (t6, (t7, (t8, end)))) =
         let inputs = state-clear t5 in
         let rule : (r : ℕ) → r < z .rules → SoundRule r = λ r l. rule-clear r (t6 r l) in
         record {
@@ -142,31 +157,36 @@ module _ (z : Sizes) where
             pre-ordered = λ r l. rule r l .pre-ordered;
             post-ordered = λ r l. rule r l .post-ordered;
             pairs-differ = λ r l p q. not-both (and-intro _ _ (eq-eqb _ _ p) (eq-eqb _ _ q)) (rule r l .differ);
-            layer-lt = λ r l. rule r l .layer-lt;
-            layer-has-rule = λ k l. let f = any-elim _ _ (layer-clear t8 k l .0) in (f .0, f .1, eqb-true _ _ (f .2));
             some-input = any-elim _ _ (inputs .1);
+          };
+          partition = record {
+            covers = λ r l. rule r l .layer-lt;
+            non-empty = λ k l. let f = any-elim _ _ (layer-clear t8 k l .0) in (f .0, f .1, eqb-true _ _ (f .2));
           };
           pairs-distinct = pair-clear t7;
           weights-most = λ l s k m. ltb-false _ _ (any-fails _ _ (layer-clear t8 l k .1) s m);
         }
 
-    parts-sound : SoundParts z states rules layers → Passes (partTests z states rules layers)
+    sections-sound : SoundSections z x → Passes (sectionTests z x)
     unfolding badState repeats badLayer
-    parts-sound g = (t5, (t6, (t7, (t8, tt))))
+    sections-sound g = (t5, (t6, (t7, (t8, tt))))
       where
-        P : WellFormed (protocolOf z states rules layers)
+        P : WellFormed (protocolOf z states rules)
         P = g .formed
+
+        L : OrderedPartition (protocolOf z states rules) (layersOf z rules)
+        L = g .partition
 
         t5 : Clear (badState z states) (z .states + 1)
         t5 s l =
             or-none _ _
-            (is-false (ltb s (z .states) && otherBits states s)
-            (λ e. let f = and-elim _ _ e in omega (arith, ltb-true 3 (flags states s) (f .1), g .state-bits s (ltb-true _ _ (f .0)))))
+            (is-false (ltb s (z .states) && otherBits z states s)
+            (λ e. let f = and-elim (ltb s (z .states)) _ e in omega (arith, ltb-true 3 (flags z states s) (f .1), g .state-bits s (ltb-true _ _ (f .0)))))
             (is-false _
             (λ e.
-            let f = and-elim (eqb s (z .states)) (not (anyBelow (z .states) (isInput states))) e in
+            let f = and-elim (eqb s (z .states)) (not (anyBelow (z .states) (isInput z states))) e in
             let i = P .some-input in
-            not-both (any-intro (z .states) (isInput states) (i .0) (i .1) (i .2)) (not-true _ (f .1))))
+            not-both (any-intro (z .states) (isInput z states) (i .0) (i .1) (i .2)) (not-true _ (f .1))))
 
         t6 : Clear (badRule z rules) (z .rules)
         t6 r l =
@@ -177,8 +197,10 @@ module _ (z : Sizes) where
               q′-lt = P .q′-lt r l;
               pre-ordered = P .pre-ordered r l;
               post-ordered = P .post-ordered r l;
-              differ = is-false _ (λ e. let f = and-elim (eqb (ruleP rules r) (ruleP′ rules r)) _ e in P .pairs-differ r l (eqb-true _ _ (f .0)) (eqb-true _ _ (f .1)));
-              layer-lt = P .layer-lt r l;
+              differ =
+                  is-false _ (λ e. let f = and-elim (eqb (ruleP rules r) (ruleP′ rules r)) _ e in P .pairs-differ r l (eqb-true _ _ (f .0))
+                  (eqb-true _ _ (f .1)));
+              layer-lt = L .covers r l;
             })
 
         t7 : Clear (repeats rules) (z .rules)
@@ -191,10 +213,11 @@ module _ (z : Sizes) where
 
         t8 : Clear (badLayer z rules layers) (z .layers)
         t8 l k =
-            let f = P .layer-has-rule l k in
+            let f = L .non-empty l k in
             or-none _ _
             (ap not (any-intro (z .rules) (inLayer rules l) (f .0) (f .1) (eq-eqb _ _ (f .2))))
-            (is-false _ (λ e. let h = any-elim (z .states) (tooLarge (z .states) layers l) e in omega (arith, ltb-true 1000000 (layerWeight (z .states) layers l (h .0)) (h .2), g .weights-most l (h .0) k (h .1))))
+            (is-false _ (λ e. let h = any-elim (z .states) (tooLarge (z .states) layers l) e in omega
+            (arith, ltb-true 1000000 (layerWeight (z .states) layers l (h .0)) (h .2), g .weights-most l (h .0) k (h .1))))
 
 -- ---- The header
 
@@ -220,11 +243,11 @@ module _ (b : List ℕ) (h : Header) where
     version = eqb-true _ _ (not-false _ (t2 0 (omega arith)));
     limits = limits (h .sizes) t3;
     laid = laid (t1 0 (omega arith)) t4;
-    parts = sound-parts (h .sizes) (partsOf b h .states) (partsOf b h .rules) (partsOf b h .layers) rest;
+    sections = sound-sections (h .sizes) (sectionsOf b h) rest;
   }
 
   sound-passes : SoundShape b h → Passes (shapeTests b h)
-  sound-passes g = (t1, (t2, (t3, (t4, parts-sound (h .sizes) (partsOf b h .states) (partsOf b h .rules) (partsOf b h .layers) (g .parts)))))
+  sound-passes g = (t1, (t2, (t3, (t4, sections-sound (h .sizes) (sectionsOf b h) (g .sections)))))
     where
       z : Sizes
       z = h .sizes
@@ -236,9 +259,11 @@ module _ (b : List ℕ) (h : Header) where
       D = g .laid
 
       t1 : (k : ℕ) → k < 1 → ltb (length b) 24 || not (eqb (length b) (h .at .total)) ≡ false
-      t1 k l = or-none _ _ (le-ltb (length b) 24 (omega (arith, D .whole, D .total, D .leaves, D .nodes, D .layers, D .rules, D .states))) (ap not (eq-eqb _ _ (D .whole)))
+      t1 k l =
+          or-none _ _ (le-ltb (length b) 24 (omega (arith, D .whole, D .total, D .leaves, D .nodes, D .layers, D .rules, D .states)))
+          (ap not (eq-eqb _ _ (D .whole)))
 
-      t2 : (k : ℕ) → k < 1 → not (eqb (h .version) 1) ≡ false
+      t2 : (k : ℕ) → k < 1 → not (eqb (h .sizes .version) 1) ≡ false
       t2 k l = ap not (eq-eqb _ _ (g .version))
 
       t3 : Clear (nth (countFaults z)) 5
@@ -274,18 +299,21 @@ module _ (b : List ℕ) (h : Header) where
       D : Laid b h
       D = g .laid
 
-      within : (k : ℕ) {n : ℕ} → k + n ≤ length b → length (part b k n) ≡ n
+      within : (k : ℕ) {n : ℕ} → k + n ≤ length b → length (section b k n) ≡ n
       within k {n} l = simp (length-take, length-drop) (omega arith)
 
-refused-not-sound : {n k : ℕ} {h : Header} → Refused n k ≡ Sound h → ⊥
-refused-not-sound {n} {k} {h} e = let z : _≡_ {A = ℕ} 0 1 = cc in omega arith
+refused-not-sound : {r : Refusal} {h : Header} → Refused r ≡ Sound h → ⊥
+refused-not-sound {r} {h} e = let z : _≡_ {A = ℕ} 0 1 = cc in omega arith
+
+abbrev refuse : ℕ → ℕ → Shape
+refuse n k = Refused (refusal n k)
 
 -- What read_shape's callers use.
 pub sound-shape : (b : List ℕ) (h : Header) → shapeOf b ≡ Sound h → SoundShape b h
 unfolding shapeOf headerShape
 sound-shape b h e =
-    let passes = judge-passes Refused (Sound (headerOf b)) (Sound h) (λ n k. refused-not-sound) (shapeTests b (headerOf b)) e in
-    let same : Sound (headerOf b) ≡ Sound h = sym (passes-judge Refused (Sound (headerOf b)) (shapeTests b (headerOf b)) passes) ∙ e in
+    let passes = judge-passes refuse (Sound (headerOf b)) (Sound h) (λ n k. refused-not-sound) (shapeTests b (headerOf b)) e in
+    let same : Sound (headerOf b) ≡ Sound h = sym (passes-judge refuse (Sound (headerOf b)) (shapeTests b (headerOf b)) passes) ∙ e in
     let eq : headerOf b ≡ h = cc in
     subst (SoundShape b) eq (passes-sound b (headerOf b) refl passes)
 
@@ -297,7 +325,7 @@ pub shape-sound : (b : List ℕ) (h : Header) → SoundShape b h → shapeOf b �
 unfolding shapeOf headerShape
 shape-sound b h g =
     let at : SoundShape b (headerOf b) = subst (SoundShape b) (g .header) g in
-    passes-judge Refused (Sound (headerOf b)) (shapeTests b (headerOf b)) (sound-passes b (headerOf b) at) ∙ ap Sound (sym (g .header))
+    passes-judge refuse (Sound (headerOf b)) (shapeTests b (headerOf b)) (sound-passes b (headerOf b) at) ∙ ap Sound (sym (g .header))
 
 pub sound-at : (b : List ℕ) (s : Shape) (h : Header) → s ≡ shapeOf b → s ≡ Sound h → SoundShape b h
 sound-at b s h e u = sound-shape b h (sym e ∙ u)

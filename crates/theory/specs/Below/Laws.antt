@@ -1,17 +1,18 @@
 -- Laws of tests, sums, extremes and tables below a bound. Assumes nothing.
 use mathlib.Core.Path.{_≡_, refl, sym, ap, _∙_, subst}
-use mathlib.Core.Bool.{Bool, true, false, _&&_, _||_, true≢false, false≢true}
-use mathlib.Core.Logic.{⊎-elim, by-cases}
-use Prim.Native.Nat.{ℕ, zero, suc, _+_, _*_, _≤_, _<_, min, max}
+use mathlib.Core.Bool.{Bool, true, false, _||_, true≢false, false≢true}
+use mathlib.Core.List.{List, [], _∷_}
+use mathlib.Core.Logic.{_↔_, ⊎-elim, by-cases}
+use Prim.Native.Nat.{ℕ, zero, suc, _+_, _-_, _*_, _≤_, _<_, min, max}
 use native.Mathlib.Omega.{arith}
 use native.Mathlib.Decide.{decLt}
 use native.Mathlib.Nat.{add-suc, add-zero}
 use lib.ListN.{length, getD}
 use lib.Dec.{eqb}
 use borrow.Author.Tests.{eq-eqb, ne-eqb}
-use Rattle.theory.specs.Test.{bit}
-use Rattle.theory.specs.Test.Laws.{by-test, not-both, is-false, and-intro, and-elim, or-left, or-right, or-elim}
-use Rattle.theory.specs.Below.{allBelow, anyBelow, firstBelow, sumBelow, least, greatest, table}
+use Rattle.theory.specs.Bool.{bit}
+use Rattle.theory.specs.Bool.Laws.{by-test, not-both, is-false, and-intro, and-elim, or-left, or-right, or-elim, or-resolve}
+use Rattle.theory.specs.Below.{allBelow, anyBelow, firstBelow, sumBelow, least, greatest}
 
 pub below-suc : (P : ℕ → Type 0) (n : ℕ) → P n → ((k : ℕ) → k < n → P k) → (k : ℕ) → k < suc n → P k
 below-suc P n here below k h = by-cases (decLt k n) (below k) (λ g. subst P (omega arith) here)
@@ -27,6 +28,13 @@ pub all-intro : (n : ℕ) (f : ℕ → Bool) → ((k : ℕ) → k < n → f k �
 unfolding allBelow
 all-intro zero f h = refl
 all-intro (suc n) f h = and-intro _ _ (h n (omega arith)) (all-intro n f (λ k l. h k (omega arith)))
+
+-- Every number below n that does not pass u passes f.
+pub all-unless : (n : ℕ) (u f : ℕ → Bool) → (allBelow n (λ k. u k || f k) ≡ true) ↔ ((k : ℕ) → k < n → u k ≡ false → f k ≡ true)
+all-unless n u f = (
+  λ h k l e. or-resolve _ _ e (all-elim _ _ h k l),
+  λ h. all-intro _ _ (λ k l. by-test (u k) (or-left _ _) (λ e. or-right (u k) (f k) (h k l e))),
+)
 
 -- Where not every number passes, there is one that fails.
 pub all-fails : (n : ℕ) (f : ℕ → Bool) → allBelow n f ≡ false → (k : ℕ) × (k < n) × (f k ≡ false)
@@ -61,17 +69,6 @@ all-same n f g e =
     by-test (allBelow n g)
     (λ t. all-intro n f (λ k l. e k l ∙ all-elim n g t k l) ∙ sym t)
     (λ t. is-false _ (λ u. not-both (all-intro n g (λ k l. sym (e k l) ∙ all-elim n f u k l)) t) ∙ sym t)
-
-and-swap : (a b c : Bool) → a && (b && c) ≡ b && (a && c)
-and-swap true b c = refl
-and-swap false true c = refl
-and-swap false false c = refl
-
--- Every number below n + 1: the first, and the others.
-pub all-front : (n : ℕ) (f : ℕ → Bool) → allBelow (suc n) f ≡ (f zero && allBelow n (λ k. f (suc k)))
-unfolding allBelow
-all-front zero f = refl
-all-front (suc n) f = ap (λ (b : Bool). f (suc n) && b) (all-front n f) ∙ and-swap (f (suc n)) (f zero) (allBelow n (λ k. f (suc k)))
 
 -- ---- The lowest number
 
@@ -130,10 +127,13 @@ sum-mono (suc n) f g h = let ih : sumBelow n f ≤ sumBelow n g = sum-mono n f g
 pub sum-same : (n : ℕ) (f g : ℕ → ℕ) → ((k : ℕ) → k < n → f k ≡ g k) → sumBelow n f ≡ sumBelow n g
 sum-same n f g h = omega (arith, sum-mono n f g (λ k l. omega (arith, h k l)), sum-mono n g f (λ k l. omega (arith, h k l)))
 
-pub sum-split : (m n : ℕ) (f : ℕ → ℕ) → sumBelow (m + n) f ≡ sumBelow m f + sumBelow n (λ k. f (m + k))
+sum-split : (m n : ℕ) (f : ℕ → ℕ) → sumBelow (m + n) f ≡ sumBelow m f + sumBelow n (λ k. f (m + k))
 unfolding sumBelow
 sum-split m zero f = rw (add-zero m) (omega arith)
 sum-split m (suc n) f = rw (add-suc m n) (omega (arith, sum-split m n f))
+
+pub sum-to : (m n : ℕ) (f : ℕ → ℕ) → m ≤ n → sumBelow n f ≡ sumBelow m f + sumBelow (n - m) (λ k. f (m + k))
+sum-to m n f h = subst (λ k. sumBelow k f ≡ sumBelow m f + sumBelow (n - m) (λ k. f (m + k))) (omega arith) (sum-split m (n - m) f)
 
 -- A sum of one term: the others are 0.
 pub sum-one : (n : ℕ) (f : ℕ → ℕ) (i : ℕ) → i < n → sumBelow n (λ k. bit (eqb i k) * f k) ≡ f i
@@ -164,6 +164,11 @@ le-greatest zero f k h = absurd (omega arith)
 le-greatest (suc n) f k h = below-suc (λ j. f j ≤ max (greatest n f) (f n)) n (omega arith) (λ j l. omega (arith, le-greatest n f j l)) k h
 
 -- ---- Tables
+
+-- The list f 0, .., f (n - 1).
+unfoldable pub table : ℕ → (ℕ → ℕ) → List ℕ
+table zero f = []
+table (suc n) f = f 0 ∷ table n (λ k. f (suc k))
 
 pub length-table : (n : ℕ) (f : ℕ → ℕ) → length (table n f) ≡ n
 unfolding table

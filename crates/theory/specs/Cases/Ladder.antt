@@ -5,68 +5,91 @@ use mathlib.Core.List.{[], _∷_}
 use Prim.Native.Nat.{ℕ, _+_, _*_, _<_}
 use native.Mathlib.Omega.{arith}
 use borrow.Author.Tests.{ltb-true}
-use Rattle.theory.specs.Test.Laws.{is-false}
-use Rattle.theory.specs.Below.{allBelow, anyBelow, firstBelow, sumBelow, least, greatest}
+use Rattle.theory.specs.Bool.Laws.{is-false}
+use Rattle.theory.specs.Below.{firstBelow}
 use Rattle.theory.specs.Below.Laws.{all-elim}
-use Rattle.theory.specs.Weigh.{weigh}
-use Rattle.theory.specs.Protocol.{Protocol, size, lose, gain, enabled, fire, terminal, fires, tried, after, meetings}
-use Rattle.theory.specs.Cases.Protocol.{broadcast, twins, majority, vote, steep, exchanged}
-use Rattle.theory.specs.Ladder.{lowersAt, lowering, isLower, fits, handoverAt, handover, enabledIn, active, lowest, layered, leastWeight, spread, spreads, spreadsAbove, rankAt, rank}
+use Rattle.theory.specs.Protocol.{size, terminal, after, meetings}
+use Rattle.theory.specs.Cases.Protocol.{column, rows, broadcast, twins, majority}
+use Rattle.theory.specs.Ladder.{Layers, lowersAt, lowering, handoverAt, handover, active, layered, spreads, rank}
+use Rattle.theory.specs.Unfold.{laddering}
+
+-- All rules in one layer; the layers of majority in document 01; and these two exchanged.
+abbrev pub oneLayer : Layers
+oneLayer = record { count = 1; of = λ _. 0 }
+
+abbrev pub twoLayers : Layers
+twoLayers = record { count = 2; of = column (0 ∷ 0 ∷ 1 ∷ 1 ∷ []) }
+
+abbrev pub exchanged : Layers
+exchanged = record { count = 2; of = column (1 ∷ 1 ∷ 0 ∷ 0 ∷ []) }
+
+-- Weights of broadcast and of twins; of majority in document 01; and others of majority, with spreads 2 and 3 and least
+-- weights 3 and 1.
+abbrev pub castWeights : ℕ → ℕ → ℕ
+castWeights = rows ((1 ∷ 0 ∷ []) ∷ [])
+
+abbrev voteWeights : ℕ → ℕ → ℕ
+voteWeights = rows ((1 ∷ 1 ∷ 0 ∷ 1 ∷ []) ∷ (0 ∷ 0 ∷ 1 ∷ 0 ∷ []) ∷ [])
+
+abbrev steepWeights : ℕ → ℕ → ℕ
+steepWeights = rows ((5 ∷ 5 ∷ 3 ∷ 5 ∷ []) ∷ (1 ∷ 1 ∷ 4 ∷ 1 ∷ []) ∷ [])
 
 -- With the weights 0, 0 lowering fails at rule 0.
-pub P3 : firstBelow 1 (λ r. not (lowersAt (broadcast (0 ∷ 0 ∷ [])) r)) ≡ 0
-unfolding firstBelow lowersAt
+pub P3 : firstBelow 1 (λ r. not (lowersAt broadcast oneLayer (λ _ _. 0) r)) ≡ 0
+unfolding laddering
 P3 = refl
 
 -- The rest bound is reached, and one meeting less does not end terminal.
-pub tight : (lowering twins ≡ true)
-    × (size (2 ∷ 0 ∷ []) * spreads twins ≡ 2)
+pub tight : (lowering twins oneLayer castWeights ≡ true)
+    × (size (2 ∷ 0 ∷ []) * spreads twins oneLayer castWeights ≡ 2)
     × (meetings twins (2 ∷ 0 ∷ []) (0 ∷ 1 ∷ []) ≡ 2)
     × (terminal twins (after twins (2 ∷ 0 ∷ []) (0 ∷ 1 ∷ [])) ≡ true)
     × (terminal twins (after twins (2 ∷ 0 ∷ []) (0 ∷ [])) ≡ false)
-unfolding lowering lowersAt spreads spread leastWeight least greatest sumBelow size weigh meetings after tried fire lose gain fires enabled terminal allBelow
+unfolding laddering
 tight = (refl, refl, refl, refl, refl)
 
 -- The ladder of majority passes; the rest bound of n agents is 2 n.
-pub ladder-passes : (lowering vote ≡ true) × (handover vote ≡ true) × (spreads vote ≡ 2)
-unfolding lowering lowersAt handover handoverAt isLower fits spreads spread leastWeight sumBelow least greatest allBelow anyBelow
+pub ladder-passes : (lowering majority twoLayers voteWeights ≡ true) × (handover majority twoLayers ≡ true) × (spreads majority twoLayers voteWeights ≡ 2)
+unfolding laddering
 ladder-passes = (refl, refl, refl)
 
 -- With layers and weights exchanged the handover fails at rule 0.
-pub P10 : (lowering exchanged ≡ true) × (firstBelow 4 (λ s. not (handoverAt exchanged s)) ≡ 0)
-unfolding lowering lowersAt handoverAt isLower fits firstBelow allBelow anyBelow
+pub P10 : (lowering majority exchanged (rows ((0 ∷ 0 ∷ 1 ∷ 0 ∷ []) ∷ (1 ∷ 1 ∷ 0 ∷ 1 ∷ []) ∷ [])) ≡ true)
+    × (firstBelow 4 (λ s. not (handoverAt majority exchanged s)) ≡ 0)
+unfolding laddering
 P10 = (refl, refl)
 
 -- With all four rules in one layer no weights pass.
-pub P11 : (weights : ℕ → ℕ → ℕ) → lowering (majority 1 (0 ∷ 0 ∷ 0 ∷ 0 ∷ []) weights) ≡ false
-unfolding lowering lowersAt
+pub P11 : (w : ℕ → ℕ → ℕ) → lowering majority oneLayer w ≡ false
+unfolding laddering
 P11 w =
-    is-false (lowering table)
+    is-false (lowering majority oneLayer w)
     (λ h.
-    let Ab : w 0 0 + w 0 2 < w 0 0 + w 0 3 = ltb-true (w 0 0 + w 0 2) (w 0 0 + w 0 3) (all-elim 4 (lowersAt table) h 1 (omega arith)) in
-    let Ba : w 0 1 + w 0 3 < w 0 1 + w 0 2 = ltb-true (w 0 1 + w 0 3) (w 0 1 + w 0 2) (all-elim 4 (lowersAt table) h 2 (omega arith)) in
+    let Ab : w 0 0 + w 0 2 < w 0 0 + w 0 3 = ltb-true (w 0 0 + w 0 2) (w 0 0 + w 0 3) (all-elim 4 (lowersAt majority oneLayer w) h 1 (omega arith)) in
+    let Ba : w 0 1 + w 0 3 < w 0 1 + w 0 2 = ltb-true (w 0 1 + w 0 3) (w 0 1 + w 0 2) (all-elim 4 (lowersAt majority oneLayer w) h 2 (omega arith)) in
     omega arith)
-  where
-    table : Protocol
-    table = majority 1 (0 ∷ 0 ∷ 0 ∷ 0 ∷ []) w
 
 -- A quiet layer may get an enabled rule while a lower one is active: layer 1 does, by a meeting of layer 0.
-pub layer-not-kept : (active vote (2 ∷ 1 ∷ 0 ∷ 0 ∷ []) 1 ≡ false)
-    × (layered vote (2 ∷ 1 ∷ 0 ∷ 0 ∷ []) (0 ∷ []) ≡ true)
-    × (active vote (after vote (2 ∷ 1 ∷ 0 ∷ 0 ∷ []) (0 ∷ [])) 1 ≡ true)
-unfolding active enabledIn layered lowest after tried fire lose gain fires enabled anyBelow firstBelow
+pub layer-not-kept : (active majority twoLayers (2 ∷ 1 ∷ 0 ∷ 0 ∷ []) 1 ≡ false)
+    × (layered majority twoLayers (2 ∷ 1 ∷ 0 ∷ 0 ∷ []) (0 ∷ []) ≡ true)
+    × (active majority twoLayers (after majority (2 ∷ 1 ∷ 0 ∷ 0 ∷ []) (0 ∷ [])) 1 ≡ true)
+unfolding laddering
 layer-not-kept = (refl, refl, refl)
 
--- A layered list, in which 9 is no rule and rule 3 is not enabled; and one that is not layered, as rule 3 fires where rule 1 is enabled.
-pub lists : (layered vote (2 ∷ 1 ∷ 0 ∷ 0 ∷ []) (9 ∷ 3 ∷ 0 ∷ 1 ∷ []) ≡ true) × (layered vote (1 ∷ 0 ∷ 1 ∷ 1 ∷ []) (9 ∷ 3 ∷ []) ≡ false)
-unfolding layered lowest active enabledIn tried fire lose gain fires enabled anyBelow firstBelow
+-- A layered list, in which 9 is no rule and rule 3 is not enabled; and one that is not layered, as rule 3 fires where
+-- rule 1 is enabled.
+pub lists : (layered majority twoLayers (2 ∷ 1 ∷ 0 ∷ 0 ∷ []) (9 ∷ 3 ∷ 0 ∷ 1 ∷ []) ≡ true)
+    × (layered majority twoLayers (1 ∷ 0 ∷ 1 ∷ 1 ∷ []) (9 ∷ 3 ∷ []) ≡ false)
+unfolding laddering
 lists = (refl, refl)
 
--- The ranks of three configurations of 3 agents. The lowest layer with an enabled rule is layer 0 in the first: its weight is 15, less 3 times 3, and 3 times the spread 3 of layer 1 is added. In the second it is layer 1: its weight is 9, less 3. The third is terminal.
-pub ranks : (lowering steep ≡ true)
-    × (spreads steep ≡ 5)
-    × (rank steep (2 ∷ 1 ∷ 0 ∷ 0 ∷ []) ≡ 15)
-    × (rank steep (0 ∷ 1 ∷ 2 ∷ 0 ∷ []) ≡ 6)
-    × (rank steep (1 ∷ 0 ∷ 2 ∷ 0 ∷ []) ≡ 0)
-unfolding lowering lowersAt spreads rank rankAt lowest active enabledIn enabled terminal spreadsAbove spread leastWeight size weigh sumBelow least greatest allBelow anyBelow firstBelow
+-- The ranks of three configurations of 3 agents. The lowest layer with an enabled rule is layer 0 in the first: its
+-- weight is 15, less 3 times 3, and 3 times the spread 3 of layer 1 is added. In the second it is layer 1: its weight is
+-- 9, less 3. The third is terminal.
+pub ranks : (lowering majority twoLayers steepWeights ≡ true)
+    × (spreads majority twoLayers steepWeights ≡ 5)
+    × (rank majority twoLayers steepWeights (2 ∷ 1 ∷ 0 ∷ 0 ∷ []) ≡ 15)
+    × (rank majority twoLayers steepWeights (0 ∷ 1 ∷ 2 ∷ 0 ∷ []) ≡ 6)
+    × (rank majority twoLayers steepWeights (1 ∷ 0 ∷ 2 ∷ 0 ∷ []) ≡ 0)
+unfolding laddering
 ranks = (refl, refl, refl, refl, refl)

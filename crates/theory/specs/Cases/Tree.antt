@@ -4,29 +4,30 @@ use mathlib.Core.Bool.{Bool, true, false, cond, _&&_}
 use mathlib.Core.List.{List, [], _∷_}
 use Prim.Native.Nat.{ℕ}
 use lib.Dec.{eqb, ltb}
-use Rattle.theory.specs.Test.{member}
-use Rattle.theory.specs.Below.{allBelow, sumBelow}
+use lib.IntN.{ℤ, pos, negsuc}
 use Rattle.theory.specs.Protocol.{Protocol}
-use Rattle.theory.specs.Facts.{Facts, extend, withAbsent, withPresent, withAtMostOne, withUnused, fresh}
-use Rattle.theory.specs.Leaf.{nonIncreasing, startFits, spare, endFits, surplus, shortfall, leafCloses}
-use Rattle.theory.specs.Tree.{Tree, Answer, next, refused, checked, refusalNumber, forest, takes, puts, touches, follows, isTrap, isSiphon, within, isSet, children, disagreement, isRun, ground, byKind, node, treeAt, treeAnswer}
-use Rattle.theory.specs.Cases.Protocol.{column, rows, sound, twins, vote}
+use Rattle.theory.specs.Facts.{Facts, withAbsent, withPresent, withAtMostOne, withUnused, fresh}
+use Rattle.theory.specs.Leaf.{leafCloses, signed, signedSum, upperSum, lowerSum}
+use Rattle.theory.specs.Tree.{Tree, Walked, next, refused, takes, puts, touches, disagreement, treeAnswer}
+use Rattle.theory.specs.Cases.Protocol.{column, rows, broadcast, twins, majority}
+use Rattle.theory.specs.Unfold.{walking, closing}
 
 -- A tree of n nodes, each a row of kind, party, argument and set; with k leaves.
 abbrev pub tree : ℕ → ℕ → List (List ℕ) → Tree
-tree n k nodes = record { nodes = n; leaves = k; kind = λ i. rows nodes i 0; party = λ i. rows nodes i 1; argument = λ i. rows nodes i 2; set = λ i. rows nodes i 3 }
+tree n k nodes =
+    record { nodes = n; leaves = k; kind = λ i. rows nodes i 0; party = λ i. rows nodes i 1; argument = λ i. rows nodes i 2; set = λ i. rows nodes i 3 }
 
 -- The weights of a leaf that are all 0.
 abbrev pub noWeights : ℕ → ℕ → ℕ
 noWeights k s = 10000
 
 -- The answer, where leaf 1 has the weights w and those of every other leaf are 0. Weights are biased by 10,000.
-unfoldable pub answerWith : (ℕ → ℕ → ℕ) → Protocol → Tree → Answer
-unfolding treeAnswer treeAt node byKind isSet isRun ground children forest refusalNumber checked within isTrap isSiphon follows takes puts touches member fresh withAbsent withPresent withAtMostOne withUnused extend disagreement allBelow sumBelow leafCloses nonIncreasing startFits endFits surplus shortfall spare
+unfoldable pub answerWith : (ℕ → ℕ → ℕ) → Protocol → Tree → Walked
+unfolding walking
 answerWith w P T = treeAnswer P (disagreement P (λ l. cond (eqb l 1) w noWeights)) T
 
 -- The answer, where the weights of every leaf are 0.
-abbrev pub answer : Protocol → Tree → Answer
+abbrev pub answer : Protocol → Tree → Walked
 answer = answerWith noWeights
 
 -- ---- The fields of a node
@@ -36,19 +37,17 @@ abbrev catalyst : Protocol
 catalyst = record {
   states = 3;
   rules = 2;
-  layers = 2;
   p = column (0 ∷ 1 ∷ []);
   q = column (1 ∷ 2 ∷ []);
   p′ = column (1 ∷ 0 ∷ []);
   q′ = column (1 ∷ 2 ∷ []);
-  layer = column (1 ∷ 0 ∷ []);
-  weight = rows ((0 ∷ 1 ∷ 0 ∷ []) ∷ (1 ∷ 0 ∷ 0 ∷ []) ∷ []);
   output = λ s. ltb 0 s;
   input = λ s. ltb s 2;
 }
 
--- The tree of one node, of four leaves. A bad field is refused 12 at node 0, a ground that does not hold 13 at node 0; a node with children is refused 12 at node 1, as the nodes run out.
-abbrev lone : ℕ → ℕ → ℕ → ℕ → Answer
+-- The tree of one node, of four leaves. A bad field is refused 12 at node 0, a ground that does not hold 13 at node 0; a
+-- node with children is refused 12 at node 1, as the nodes run out.
+abbrev lone : ℕ → ℕ → ℕ → ℕ → Walked
 lone kind party argument set = answer catalyst (tree 1 4 ((kind ∷ party ∷ argument ∷ set ∷ []) ∷ []))
 
 -- Kind 0: party 0, argument a leaf, set 0.
@@ -139,15 +138,18 @@ abbrev pub cast : ℕ → List (List ℕ)
 cast w = (3 ∷ 1 ∷ 0 ∷ 0 ∷ []) ∷ (1 ∷ 1 ∷ 0 ∷ 0 ∷ []) ∷ (5 ∷ 1 ∷ 0 ∷ w ∷ []) ∷ (6 ∷ 2 ∷ 0 ∷ 2 ∷ []) ∷ (1 ∷ 2 ∷ 0 ∷ 0 ∷ []) ∷ []
 
 -- P1 is accepted. P4 to P7 are refused: the sets 4 and 1 of node 2, a node cut and a node more.
--- Then three misreadings. Facts of a first child do not stand for the second: at node 2 state 0 is present at end 1, and not absent.
--- A rule unused in run 1 is not unused in run 2: at node 4 the set of state 0 is no trap in run 2. A rule that meets its own kind and is not enabled leaves at most one agent, not none.
-pub trees : (answer sound (tree 5 0 (cast 2)) ≡ next 5)
-    × (answer sound (tree 5 0 (cast 4)) ≡ refused 12 2)
-    × (answer sound (tree 5 0 (cast 1)) ≡ refused 13 2)
-    × (answer sound (tree 4 0 (cast 2)) ≡ refused 12 4)
-    × (answer sound (tree 6 0 (cast 2)) ≡ refused 12 5)
-    × (answer sound (tree 3 0 ((4 ∷ 1 ∷ 0 ∷ 0 ∷ []) ∷ (1 ∷ 1 ∷ 0 ∷ 0 ∷ []) ∷ (2 ∷ 1 ∷ 0 ∷ 0 ∷ []) ∷ [])) ≡ refused 13 2)
-    × (answer sound (tree 5 0 ((3 ∷ 1 ∷ 0 ∷ 0 ∷ []) ∷ (1 ∷ 1 ∷ 0 ∷ 0 ∷ []) ∷ (5 ∷ 1 ∷ 0 ∷ 2 ∷ []) ∷ (4 ∷ 2 ∷ 0 ∷ 0 ∷ []) ∷ (5 ∷ 2 ∷ 0 ∷ 1 ∷ []) ∷ [])) ≡ refused 13 4)
+-- Then three misreadings. Facts of a first child do not stand for the second: at node 2 state 0 is present at end 1, and
+-- not absent.
+-- A rule unused in run 1 is not unused in run 2: at node 4 the set of state 0 is no trap in run 2. A rule that meets its
+-- own kind and is not enabled leaves at most one agent, not none.
+pub trees : (answer broadcast (tree 5 0 (cast 2)) ≡ next 5)
+    × (answer broadcast (tree 5 0 (cast 4)) ≡ refused 12 2)
+    × (answer broadcast (tree 5 0 (cast 1)) ≡ refused 13 2)
+    × (answer broadcast (tree 4 0 (cast 2)) ≡ refused 12 4)
+    × (answer broadcast (tree 6 0 (cast 2)) ≡ refused 12 5)
+    × (answer broadcast (tree 3 0 ((4 ∷ 1 ∷ 0 ∷ 0 ∷ []) ∷ (1 ∷ 1 ∷ 0 ∷ 0 ∷ []) ∷ (2 ∷ 1 ∷ 0 ∷ 0 ∷ []) ∷ [])) ≡ refused 13 2)
+    × (answer broadcast (tree 5 0
+    ((3 ∷ 1 ∷ 0 ∷ 0 ∷ []) ∷ (1 ∷ 1 ∷ 0 ∷ 0 ∷ []) ∷ (5 ∷ 1 ∷ 0 ∷ 2 ∷ []) ∷ (4 ∷ 2 ∷ 0 ∷ 0 ∷ []) ∷ (5 ∷ 2 ∷ 0 ∷ 1 ∷ []) ∷ [])) ≡ refused 13 4)
     × (answer twins (tree 2 0 ((3 ∷ 1 ∷ 0 ∷ 0 ∷ []) ∷ (1 ∷ 1 ∷ 0 ∷ 0 ∷ []) ∷ [])) ≡ refused 13 1)
 unfolding answerWith
 trees = (refl, refl, refl, refl, refl, refl, refl, refl)
@@ -159,13 +161,10 @@ abbrev settled : Protocol
 settled = record {
   states = 2;
   rules = 0;
-  layers = 0;
   p = λ _. 0;
   q = λ _. 0;
   p′ = λ _. 0;
   q′ = λ _. 0;
-  layer = λ _. 0;
-  weight = λ _ _. 0;
   output = λ s. eqb s 0;
   input = λ s. eqb s 0;
 }
@@ -185,7 +184,9 @@ depths = (refl, refl, refl, refl, refl)
 
 -- ---- All kinds
 
--- The siphon of state 2 leaves rule 1 unused, in run k (node 0) and in run 2. Where state 1 is absent at the start it is absent at end 2 (nodes 3 and 4). Where it is present there, rule 0 is not enabled at end 1: state 0 is absent there (node 6), or state 1 is (node 7).
+-- The siphon of state 2 leaves rule 1 unused, in run k (node 0) and in run 2. Where state 1 is absent at the start it is
+-- absent at end 2 (nodes 3 and 4). Where it is present there, rule 0 is not enabled at end 1: state 0 is absent there
+-- (node 6), or state 1 is (node 7).
 abbrev front : ℕ → List (List ℕ) → List (List ℕ)
 front k end =
     (6 ∷ k ∷ 0 ∷ 4 ∷ [])
@@ -201,14 +202,16 @@ front k end =
 abbrev byTrap : ℕ → Tree
 byTrap k = tree 9 0 (front k ((5 ∷ 1 ∷ 0 ∷ 2 ∷ []) ∷ (2 ∷ 0 ∷ 1 ∷ 0 ∷ []) ∷ []))
 
--- Leaf l of two. Leaf 1 has the weights 0 -1 0 for end 1 and 0 0 0 for end 2: the start adds -1 to the upper sum, and the lower sum is 0.
+-- Leaf l of two. Leaf 1 has the weights 0 -1 0 for end 1 and 0 0 0 for end 2: the start adds -1 to the upper sum, and the
+-- lower sum is 0.
 abbrev byLeaf : ℕ → ℕ → Tree
 byLeaf k l = tree 8 2 (front k ((0 ∷ 0 ∷ l ∷ 0 ∷ []) ∷ []))
 
 abbrev oneDown : ℕ → ℕ → ℕ
 oneDown = rows ([] ∷ (10000 ∷ 9999 ∷ 10000 ∷ []) ∷ (10000 ∷ 10000 ∷ 10000 ∷ []) ∷ [])
 
--- Both are accepted. Leaf 0 does not close, and there is no leaf 2. Where rule 1 is unused in run 2 alone, the set of state 1 is no trap in run 1, and leaf 1 does not close: rule 1 takes from state 1 and puts none back.
+-- Both are accepted. Leaf 0 does not close, and there is no leaf 2. Where rule 1 is unused in run 2 alone, the set of
+-- state 1 is no trap in run 1, and leaf 1 does not close: rule 1 takes from state 1 and puts none back.
 pub all-kinds : (answer catalyst (byTrap 1) ≡ next 9)
     × (answerWith oneDown catalyst (byLeaf 1 1) ≡ next 8)
     × (answerWith oneDown catalyst (byLeaf 1 0) ≡ refused 13 7)
@@ -218,19 +221,24 @@ pub all-kinds : (answer catalyst (byTrap 1) ≡ next 9)
 unfolding answerWith
 all-kinds = (refl, refl, refl, refl, refl, refl)
 
--- Rule 1 puts into state 0 and does not take from it. The set of state 0 is a siphon in run j where it is absent at the start and rule 1 is unused in run j, as the siphon of state 2 says of run k. The tree then goes on to node 4, which it lacks.
+-- Rule 1 puts into state 0 and does not take from it. The set of state 0 is a siphon in run j where it is absent at the
+-- start and rule 1 is unused in run j, as the siphon of state 2 says of run k. The tree then goes on to node 4, which it
+-- lacks.
 abbrev bySiphon : ℕ → ℕ → Tree
 bySiphon k j = tree 4 0 ((6 ∷ k ∷ 0 ∷ 4 ∷ []) ∷ (4 ∷ 0 ∷ 0 ∷ 0 ∷ []) ∷ (6 ∷ j ∷ 0 ∷ 1 ∷ []) ∷ (1 ∷ 1 ∷ 0 ∷ 0 ∷ []) ∷ [])
 
 pub siphon-rules : (answer catalyst (bySiphon 1 1) ≡ refused 12 4)
     × (answer catalyst (bySiphon 1 2) ≡ refused 13 2)
     × (answer catalyst (bySiphon 2 1) ≡ refused 13 2)
-    × (answer vote (tree 1 0 ((6 ∷ 1 ∷ 0 ∷ 12 ∷ []) ∷ [])) ≡ refused 13 0)
+    × (answer majority (tree 1 0 ((6 ∷ 1 ∷ 0 ∷ 12 ∷ []) ∷ [])) ≡ refused 13 0)
 unfolding answerWith
 siphon-rules = (refl, refl, refl, refl)
 
--- The trap of node 2 leaves the rule of the broadcast protocol unused in run 1, so that the set of state 0 is a trap too (node 4).
-pub trap-rules : (answer sound (tree 8 0 ((3 ∷ 1 ∷ 0 ∷ 0 ∷ []) ∷ (1 ∷ 1 ∷ 0 ∷ 0 ∷ []) ∷ (5 ∷ 1 ∷ 0 ∷ 2 ∷ []) ∷ (4 ∷ 1 ∷ 0 ∷ 0 ∷ []) ∷ (5 ∷ 1 ∷ 0 ∷ 1 ∷ []) ∷ (1 ∷ 1 ∷ 0 ∷ 0 ∷ []) ∷ (6 ∷ 2 ∷ 0 ∷ 2 ∷ []) ∷ (1 ∷ 2 ∷ 0 ∷ 0 ∷ []) ∷ [])) ≡ next 8)
+-- The trap of node 2 leaves the rule of the broadcast protocol unused in run 1, so that the set of state 0 is a trap too
+-- (node 4).
+pub trap-rules : (answer broadcast
+    (tree 8 0 ((3 ∷ 1 ∷ 0 ∷ 0 ∷ []) ∷ (1 ∷ 1 ∷ 0 ∷ 0 ∷ []) ∷ (5 ∷ 1 ∷ 0 ∷ 2 ∷ []) ∷ (4 ∷ 1 ∷ 0 ∷ 0 ∷ []) ∷ (5 ∷ 1 ∷ 0 ∷ 1 ∷ []) ∷
+    (1 ∷ 1 ∷ 0 ∷ 0 ∷ []) ∷ (6 ∷ 2 ∷ 0 ∷ 2 ∷ []) ∷ (1 ∷ 2 ∷ 0 ∷ 0 ∷ []) ∷ [])) ≡ next 8)
 unfolding answerWith
 trap-rules = refl
 
@@ -241,23 +249,22 @@ abbrev pairing : Protocol
 pairing = record {
   states = 2;
   rules = 1;
-  layers = 1;
   p = λ _. 0;
   q = λ _. 0;
   p′ = λ _. 1;
   q′ = λ _. 1;
-  layer = λ _. 0;
-  weight = λ _. column (1 ∷ 0 ∷ []);
   output = λ _. false;
   input = λ _. true;
 }
 
 -- A rule touches what it takes from and what it puts into; there is no rule 1.
-pub touched : (touches pairing (eqb 0) 0 ≡ true) × (touches pairing (eqb 1) 0 ≡ true) × (touches pairing (eqb 2) 0 ≡ false) × (touches pairing (eqb 0) 1 ≡ false)
+pub touched : (touches pairing (eqb 0) 0 ≡ true) × (touches pairing (eqb 1) 0 ≡ true) × (touches pairing (eqb 2) 0 ≡ false)
+    × (touches pairing (eqb 0) 1 ≡ false)
 unfolding touches takes puts
 touched = (refl, refl, refl, refl)
 
--- Kind 1 closes everywhere at party 2. Where both states are present at the start, state 1 is absent at end 1 and state 0 holds at most one agent there, leaf 1 closes with -1 for both states: one agent at the end, two at the start.
+-- Kind 1 closes everywhere at party 2. Where both states are present at the start, state 1 is absent at end 1 and state 0
+-- holds at most one agent there, leaf 1 closes with -1 for both states: one agent at the end, two at the start.
 -- Without node 5 state 0 may hold many, and leaf 1 does not close.
 abbrev splits : List (List ℕ) → List (List ℕ)
 splits end =
@@ -277,7 +284,9 @@ unfolding answerWith
 at-most-one = (refl, refl)
 
 -- The set of all states is a set: where both are absent at end 1 it is a trap, and a siphon where both are absent at the start.
-pub full-set : (answer pairing (tree 7 0 ((4 ∷ 1 ∷ 0 ∷ 0 ∷ []) ∷ (4 ∷ 1 ∷ 1 ∷ 0 ∷ []) ∷ (5 ∷ 1 ∷ 0 ∷ 3 ∷ []) ∷ (6 ∷ 2 ∷ 0 ∷ 3 ∷ []) ∷ (1 ∷ 1 ∷ 0 ∷ 0 ∷ []) ∷ (1 ∷ 2 ∷ 0 ∷ 0 ∷ []) ∷ (1 ∷ 2 ∷ 0 ∷ 0 ∷ []) ∷ [])) ≡ next 7)
+pub full-set : (answer pairing
+    (tree 7 0 ((4 ∷ 1 ∷ 0 ∷ 0 ∷ []) ∷ (4 ∷ 1 ∷ 1 ∷ 0 ∷ []) ∷ (5 ∷ 1 ∷ 0 ∷ 3 ∷ []) ∷ (6 ∷ 2 ∷ 0 ∷ 3 ∷ []) ∷ (1 ∷ 1 ∷ 0 ∷ 0 ∷ []) ∷
+    (1 ∷ 2 ∷ 0 ∷ 0 ∷ []) ∷ (1 ∷ 2 ∷ 0 ∷ 0 ∷ []) ∷ [])) ≡ next 7)
 unfolding answerWith
 full-set = refl
 
@@ -285,12 +294,13 @@ full-set = refl
 
 -- Whether a leaf with the weights w closes on the facts F.
 pub closes : Protocol → Facts → (ℕ → ℕ → ℕ) → Bool
-unfolding leafCloses nonIncreasing startFits endFits surplus shortfall spare withAbsent withPresent withAtMostOne withUnused extend fresh allBelow sumBelow
+unfolding closing
 closes P F w = leafCloses P F w
 
 -- Equal sums do not close, and a negative weight of a state that may hold many agents does not: weights 2 -1, -2 -2.
-pub leaves-open : (closes sound (fresh sound) noWeights ≡ false)
-    × (closes sound (withAbsent (withPresent (fresh sound) 1 (λ _. true)) 2 (λ _. true)) (rows ([] ∷ (10002 ∷ 9999 ∷ []) ∷ (9998 ∷ 9998 ∷ []) ∷ [])) ≡ false)
+pub leaves-open : (closes broadcast (fresh broadcast) noWeights ≡ false)
+    × (closes broadcast (withAbsent (withPresent (fresh broadcast) 1 (λ _. true)) 2 (λ _. true))
+    (rows ([] ∷ (10002 ∷ 9999 ∷ []) ∷ (9998 ∷ 9998 ∷ []) ∷ [])) ≡ false)
 unfolding closes
 leaves-open = (refl, refl)
 
@@ -298,8 +308,11 @@ leaves-open = (refl, refl)
 abbrev oneWeight : ℕ → ℕ → ℕ → ℕ → ℕ → ℕ
 oneWeight k s w j t = cond (eqb j k && eqb t s) w 10000
 
--- In a protocol of no rules whose state 0 alone is an input: weight 1 of a state present at end 1 closes, of one not present it does not. A weight of more than 0 is refused for a state that may be at the start.
--- A weight of -1 counts for a state present at the start and absent at the end, not for one that may be absent at the start. It joins the lower sum where the state holds at most one agent, present or not. What is both present and absent counts for nothing.
+-- In a protocol of no rules whose state 0 alone is an input: weight 1 of a state present at end 1 closes, of one not
+-- present it does not. A weight of more than 0 is refused for a state that may be at the start.
+-- A weight of -1 counts for a state present at the start and absent at the end, not for one that may be absent at the
+-- start. It joins the lower sum where the state holds at most one agent, present or not. What is both present and absent
+-- counts for nothing.
 pub leaf-sums : (closes settled (withPresent (fresh settled) 1 (eqb 1)) (oneWeight 1 1 10001) ≡ true)
     × (closes settled (withPresent (fresh settled) 2 (eqb 1)) (oneWeight 1 1 10001) ≡ false)
     × (closes settled (withPresent (fresh settled) 1 (eqb 0)) (oneWeight 1 0 10001) ≡ false)
@@ -317,9 +330,25 @@ pub leaf-sums : (closes settled (withPresent (fresh settled) 1 (eqb 1)) (oneWeig
 unfolding closes
 leaf-sums = (refl, refl, refl, refl, refl, refl, refl, refl, refl, refl, refl, refl, refl, refl)
 
--- State 0 of the broadcast protocol is present at the start and absent at end 2. Its weight -1 closes only where the rule, which raises it, is unused in run 2.
-pub leaf-rules : (closes sound (withUnused (withPresent (withAbsent (fresh sound) 2 (eqb 0)) 0 (eqb 0)) 2 (eqb 0)) (oneWeight 2 0 9999) ≡ true)
-    × (closes sound (withUnused (withPresent (withAbsent (fresh sound) 2 (eqb 0)) 0 (eqb 0)) 1 (eqb 0)) (oneWeight 2 0 9999) ≡ false)
+-- In signed numbers: state 1 holds at most one agent at end 1, where its weight is -1, and is present at end 2, where it
+-- is 2. Then a weight of -1 for a state present at the start.
+abbrev fewFacts : Facts
+fewFacts = withPresent (withAtMostOne (fresh settled) 1 (eqb 1)) 2 (eqb 1)
+
+abbrev fewWeights : ℕ → ℕ → ℤ
+fewWeights k s = signed (rows ([] ∷ (10000 ∷ 9999 ∷ []) ∷ (10000 ∷ 10002 ∷ []) ∷ []) k s)
+
+pub signed-sums : (lowerSum settled fewFacts fewWeights 1 ≡ negsuc 0)
+    × (lowerSum settled fewFacts fewWeights 2 ≡ pos 2)
+    × (upperSum settled fewFacts fewWeights ≡ pos 0)
+    × (upperSum settled (withPresent (fresh settled) 0 (eqb 0)) (λ k s. signed (oneWeight 1 0 9999 k s)) ≡ negsuc 0)
+unfolding closes lowerSum upperSum signedSum
+signed-sums = (refl, refl, refl, refl)
+
+-- State 0 of the broadcast protocol is present at the start and absent at end 2. Its weight -1 closes only where the
+-- rule, which raises it, is unused in run 2.
+pub leaf-rules : (closes broadcast (withUnused (withPresent (withAbsent (fresh broadcast) 2 (eqb 0)) 0 (eqb 0)) 2 (eqb 0)) (oneWeight 2 0 9999) ≡ true)
+    × (closes broadcast (withUnused (withPresent (withAbsent (fresh broadcast) 2 (eqb 0)) 0 (eqb 0)) 1 (eqb 0)) (oneWeight 2 0 9999) ≡ false)
 unfolding closes
 leaf-rules = (refl, refl)
 
@@ -328,8 +357,8 @@ abbrev votes : ℕ → ℕ → ℕ
 votes = rows ([] ∷ (10001 ∷ 9999 ∷ 10000 ∷ 10000 ∷ []) ∷ (9999 ∷ 10001 ∷ 10000 ∷ 10000 ∷ []) ∷ [])
 
 abbrev someFacts : Facts
-someFacts = withPresent (withAbsent (fresh vote) 2 (eqb 0)) 1 (eqb 0)
+someFacts = withPresent (withAbsent (fresh majority) 2 (eqb 0)) 1 (eqb 0)
 
-pub P12 : (closes vote (withAbsent someFacts 1 (eqb 1)) votes ≡ true) × (closes vote someFacts votes ≡ false)
+pub P12 : (closes majority (withAbsent someFacts 1 (eqb 1)) votes ≡ true) × (closes majority someFacts votes ≡ false)
 unfolding closes
 P12 = (refl, refl)

@@ -1,4 +1,5 @@
--- A protocol with a certificate, so that the claims are not empty; and a configuration that is potentially reachable and not reachable.
+-- A protocol with a certificate, so that the claims are not empty; and a configuration that is potentially reachable and
+-- not reachable.
 use mathlib.Core.Path.{_≡_, refl}
 use mathlib.Core.Bool.{true, false, cond}
 use mathlib.Core.List.{List, [], _∷_}
@@ -6,23 +7,26 @@ use Prim.Native.Nat.{ℕ, zero, suc, _+_, _*_, _<_}
 use native.Mathlib.Omega.{arith}
 use lib.Dec.{eqb}
 use borrow.Author.Tests.{eqb-true}
-use Rattle.theory.specs.Test.Laws.{is-false, or-none, or-fails}
-use Rattle.theory.specs.Below.{allBelow, sumBelow}
+use Rattle.theory.specs.Bool.Laws.{is-false, or-none, or-fails}
+use Rattle.theory.specs.Below.{sumBelow}
 use Rattle.theory.specs.Below.Laws.{all-elim}
 use Rattle.theory.specs.Weigh.Laws.{set-none}
-use Rattle.theory.specs.Protocol.{Protocol, count, pre, post, enabled, terminal}
-use Rattle.theory.specs.Cases.Protocol.{column, sound}
-use Rattle.theory.specs.Ladder.{lowersAt, lowering, isLower, fits, handoverAt, handover}
-use Rattle.theory.specs.Tree.{takes, puts, isTrap, isSiphon}
+use Rattle.theory.specs.Protocol.{Protocol, count, pre, post, terminal}
+use Rattle.theory.specs.Cases.Protocol.{column, broadcast}
+use Rattle.theory.specs.Cases.Ladder.{oneLayer, castWeights}
+use Rattle.theory.specs.Tree.{takes, puts}
 use Rattle.theory.specs.Tree.Traps.{follows-none}
 use Rattle.theory.specs.Cases.Tree.{tree, noWeights, answerWith, cast, trees}
 use Rattle.theory.specs.Potential.{Potential}
 use Rattle.theory.specs.Claims.{Certified}
+use Rattle.theory.specs.Unfold.{meeting, laddering, walking}
 
 -- The broadcast protocol has a certificate.
-pub P1 : Certified sound
-unfolding answerWith lowering lowersAt handover handoverAt isLower fits allBelow
+pub P1 : Certified broadcast
+unfolding answerWith laddering
 P1 = record {
+  layers = oneLayer;
+  weight = castWeights;
   ladder = record {
     formed = record {
       p-lt = λ r l. omega arith;
@@ -32,15 +36,14 @@ P1 = record {
       pre-ordered = λ r l. omega arith;
       post-ordered = λ r l. omega arith;
       pairs-differ = λ r l e f. omega arith;
-      layer-lt = λ r l. omega arith;
-      layer-has-rule = λ k l. (0, omega arith, omega arith);
       some-input = (0, omega arith, refl);
     };
+    partition = record { covers = λ r l. omega arith; non-empty = λ k l. (0, omega arith, omega arith) };
     lowering-passes = refl;
     handover-passes = refl;
   };
   tree = tree 5 0 (cast 2);
-  weights = λ l. cond (eqb l 1) noWeights noWeights;
+  leafWeight = λ l. cond (eqb l 1) noWeights noWeights;
   closed = trees .0;
 }
 
@@ -49,24 +52,23 @@ abbrev borrowed : Protocol
 borrowed = record {
   states = 4;
   rules = 2;
-  layers = 1;
   p = column (0 ∷ 1 ∷ []);
   q = column (0 ∷ 2 ∷ []);
   p′ = column (1 ∷ 0 ∷ []);
   q′ = column (1 ∷ 3 ∷ []);
-  layer = λ _. 0;
-  weight = λ _ _. 0;
   output = λ _. false;
   input = λ _. true;
 }
 
 -- Potentially a c becomes b d by each rule once, but a c is terminal: Strong Consensus speaks of more than Consensus.
 pub beyond : Potential borrowed (λ _. 1) (1 ∷ 0 ∷ 1 ∷ 0 ∷ []) (0 ∷ 1 ∷ 0 ∷ 1 ∷ []) × (terminal borrowed (1 ∷ 0 ∷ 1 ∷ 0 ∷ []) ≡ true)
-unfolding isTrap isSiphon takes puts terminal enabled allBelow sumBelow
+unfolding walking meeting
 beyond = (
   record {
     sized = refl;
-    flow = λ s l. eqb-true _ _ (all-elim 4 (λ s. eqb (count d s + sumBelow 2 (λ r. 1 * pre borrowed r s)) (count c s + sumBelow 2 (λ r. 1 * post borrowed r s))) refl s l);
+    flow =
+        λ s l. eqb-true _ _ (all-elim 4
+        (λ s. eqb (count d s + sumBelow 2 (λ r. 1 * pre borrowed r s)) (count c s + sumBelow 2 (λ r. 1 * post borrowed r s))) refl s l);
     traps = λ A t e r l u.
         let out : (s : ℕ) → 0 < count d s → A s ≡ false = λ s o. is-false _ (λ (y : A s ≡ true). omega (arith, set-none A d e s y)) in
         let b = or-none (A 1) (A 1) (out 1 (omega arith)) (out 1 (omega arith)) in

@@ -7,10 +7,10 @@ use Prim.Native.Nat.{ℕ, _≤_, _<_}
 use lib.ListN.{length}
 use lib.Dec.{eqb}
 use borrow.Author.Tests.{ltb-true, eqb-true, not-true}
-use Rattle.theory.specs.Test.Laws.{not-both, and-elim, or-elim}
+use Rattle.theory.specs.Bool.Laws.{not-both, and-elim, or-elim}
 use Rattle.theory.specs.Protocol.{Protocol, Start, count}
 use Rattle.theory.specs.Facts.{Facts, extend, withAbsent, withPresent, withAtMostOne, withUnused, fresh}
-use Rattle.theory.specs.Potential.{Reach}
+use Rattle.theory.specs.Potential.Runs.{Reach}
 
 module _ (P : Protocol) where
   -- Runs from one start. Run 0 ends there, so party 0 is the start.
@@ -61,16 +61,44 @@ module _ (P : Protocol) where
   module _ (σ : Runs) (F : Facts) (h : Holds F σ) (k : ℕ) (A : ℕ → Bool) where
     pub holds-absent : ((s : ℕ) → A s ≡ true → count (at σ k) s ≡ 0) → Holds (withAbsent F k A) σ
     unfolding withAbsent
-    holds-absent n = record { absent = extend-holds (λ j s. count (at σ j) s ≡ 0) (F .absent) k A (h .absent) n; present = h .present; atMostOne = h .atMostOne; unused = h .unused }
+    holds-absent n =
+        record {
+          absent = extend-holds (λ j s. count (at σ j) s ≡ 0) (F .absent) k A
+              (h .absent) n;
+          present = h .present;
+          atMostOne = h .atMostOne;
+          unused = h .unused;
+        }
 
     pub holds-present : ((s : ℕ) → A s ≡ true → 0 < count (at σ k) s) → Holds (withPresent F k A) σ
     unfolding withPresent
-    holds-present n = record { absent = h .absent; present = extend-holds (λ j s. 0 < count (at σ j) s) (F .present) k A (h .present) n; atMostOne = h .atMostOne; unused = h .unused }
+    holds-present n =
+        record {
+          absent = h .absent;
+          present = extend-holds (λ j s. 0 < count (at σ j) s) (F .present) k A
+              (h .present) n;
+          atMostOne = h .atMostOne;
+          unused = h .unused;
+        }
 
     pub holds-at-most-one : ((s : ℕ) → A s ≡ true → count (at σ k) s ≤ 1) → Holds (withAtMostOne F k A) σ
     unfolding withAtMostOne
-    holds-at-most-one n = record { absent = h .absent; present = h .present; atMostOne = extend-holds (λ j s. count (at σ j) s ≤ 1) (F .atMostOne) k A (h .atMostOne) n; unused = h .unused }
+    holds-at-most-one n =
+        record {
+          absent = h .absent;
+          present = h .present;
+          atMostOne = extend-holds (λ j s. count (at σ j) s ≤ 1) (F .atMostOne) k A
+              (h .atMostOne) n;
+          unused = h .unused;
+        }
 
     pub holds-unused : ((r : ℕ) → A r ≡ true → σ .run k .through r ≡ 0) → Holds (withUnused F k A) σ
     unfolding withUnused
-    holds-unused n = record { absent = h .absent; present = h .present; atMostOne = h .atMostOne; unused = extend-holds (λ j r. σ .run j .through r ≡ 0) (F .unused) k A (h .unused) n }
+    holds-unused n =
+        record {
+          absent = h .absent;
+          present = h .present;
+          atMostOne = h .atMostOne;
+          unused = extend-holds (λ j r. σ .run j .through r ≡ 0)
+              (F .unused) k A (h .unused) n;
+        }

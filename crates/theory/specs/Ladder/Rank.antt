@@ -1,5 +1,6 @@
--- The rank of a configuration falls at each layered meeting, is 0 just where no rule is enabled, and is at most size times the sum of the spreads. Assumes nothing.
-use mathlib.Core.Path.{_≡_, ap, subst}
+-- The rank of a configuration falls at each layered meeting, is 0 just where no rule is enabled, and is at most size
+-- times the sum of the spreads. Assumes nothing.
+use mathlib.Core.Path.{_≡_, ap}
 use mathlib.Core.Bool.{true, false}
 use mathlib.Core.List.{List}
 use mathlib.Core.Logic.{_↔_, by-cases}
@@ -9,96 +10,105 @@ use native.Mathlib.Decide.{decLt}
 use native.Mathlib.Nat.{mul-sub, mul-le-mul-left}
 use lib.ListN.{length}
 use borrow.Author.Tests.{ltb-true}
-use Rattle.theory.specs.Test.Laws.{by-test, not-both, is-true}
-use Rattle.theory.specs.Below.{sumBelow, greatest}
-use Rattle.theory.specs.Below.Laws.{all-elim, sum-split, least-le, le-greatest}
+use Rattle.theory.specs.Bool.Laws.{by-test, not-both, is-true}
+use Rattle.theory.specs.Below.{sumBelow, least, greatest}
+use Rattle.theory.specs.Below.Laws.{all-elim, sum-to, least-le, le-greatest}
 use Rattle.theory.specs.Weigh.{weigh}
 use Rattle.theory.specs.Weigh.Laws.{weigh-mono, weigh-const}
-use Rattle.theory.specs.Protocol.{Protocol, WellFormed, size, fire, terminal}
-use Rattle.theory.specs.Protocol.Laws.{Meeting, length-fire, weigh-fire, size-fire}
-use Rattle.theory.specs.Ladder.{lowersAt, lowering, Laddered, lowest, leastWeight, spread, spreads, spreadsAbove, rankAt, rank}
-use Rattle.theory.specs.Ladder.Layers.{active-elim, lowest-quiet, lowest-active, meeting-not-terminal, not-terminal-lowest}
+use Rattle.theory.specs.Protocol.{Protocol, size, fire, terminal}
+use Rattle.theory.specs.Protocol.Laws.{Meeting, length-fire, weigh-fire, size-fire, meeting-not-terminal}
+use Rattle.theory.specs.Ladder.{Layers, OrderedPartition, lowersAt, lowering, Laddered, lowest, spread, spreads, spreadsAbove, rankAt, rank}
+use Rattle.theory.specs.Ladder.Active.{active-elim, lowest-quiet, lowest-active, not-terminal-lowest}
 use Rattle.theory.specs.Ladder.Handover.{quiet-fire}
 
-module _ (P : Protocol) where
-  -- ---- The spreads
+module _ (n : ℕ) (v : ℕ → ℕ) (c : List ℕ) (long : length c ≡ n) where
+  -- A configuration weighs at least size times the least weight.
+  pub weigh-least : size c * least n v ≤ weigh v c
+  unfolding size
+  weigh-least = omega (arith, weigh-const (least n v) c, weigh-mono (λ _. least n v) v c (λ i l. least-le n v i (omega arith)))
 
-  sum-to : (m n : ℕ) → m ≤ n → sumBelow n (spread P) ≡ sumBelow m (spread P) + sumBelow (n - m) (λ k. spread P (m + k))
-  sum-to m n h = subst (λ k. sumBelow k (spread P) ≡ sumBelow m (spread P) + sumBelow (n - m) (λ k. spread P (m + k))) (omega arith) (sum-split m (n - m) (spread P))
+  -- What it weighs over that is at most size times the spread.
+  pub weigh-spread : weigh v c - size c * least n v ≤ size c * spread n v
+  unfolding size spread
+  weigh-spread =
+      omega (
+        arith,
+        weigh-const (greatest n v) c,
+        weigh-mono v (λ _. greatest n v) c (λ i l. le-greatest n v i (omega arith)),
+        mul-sub (size c)
+            (greatest n v) (least n v),
+      )
 
-  sum-above : (i : ℕ) → i < P .layers → spreads P ≡ sumBelow (suc i) (spread P) + spreadsAbove P i
+module _ (P : Protocol) (L : Layers) (w : ℕ → ℕ → ℕ) where
+  abbrev spreadOf : ℕ → ℕ
+  spreadOf k = spread (P .states) (w k)
+
+  sum-above : (i : ℕ) → i < L .count → spreads P L w ≡ sumBelow (suc i) spreadOf + spreadsAbove P L w i
   unfolding spreads spreadsAbove
-  sum-above i h = sum-to (suc i) (P .layers) h
+  sum-above i h = sum-to (suc i) (L .count) spreadOf h
 
-  above-le : (i : ℕ) → i < P .layers → spread P i + spreadsAbove P i ≤ spreads P
+  above-le : (i : ℕ) → i < L .count → spreadOf i + spreadsAbove P L w i ≤ spreads P L w
   unfolding sumBelow
   above-le i h = omega (arith, sum-above i h)
 
-  above-step : (i j : ℕ) → i < j → j < P .layers → spread P j + spreadsAbove P j ≤ spreadsAbove P i
+  above-step : (i j : ℕ) → i < j → j < L .count → spreadOf j + spreadsAbove P L w j ≤ spreadsAbove P L w i
   unfolding sumBelow
-  above-step i j h l = omega (arith, sum-above i (omega arith), sum-above j l, sum-to (suc i) j h)
+  above-step i j h l = omega (arith, sum-above i (omega arith), sum-above j l, sum-to (suc i) j spreadOf h)
 
-  module _ (k : ℕ) (c : List ℕ) (long : length c ≡ P .states) where
-    -- A layer's weight is at least size times its least weight.
-    pub weigh-least : size c * leastWeight P k ≤ weigh (P .weight k) c
-    unfolding size leastWeight
-    weigh-least = omega (arith, weigh-const (leastWeight P k) c, weigh-mono (λ _. leastWeight P k) (P .weight k) c (λ i l. least-le (P .states) (P .weight k) i (omega arith)))
+  rankAt-le : (i : ℕ) (c : List ℕ) → length c ≡ P .states → rankAt P L w i c ≤ size c * (spreadOf i + spreadsAbove P L w i)
+  unfolding rankAt
+  rankAt-le i c long = omega (arith, weigh-spread (P .states) (w i) c long)
 
-    -- What a layer's weight has over that is at most size times its spread.
-    pub weigh-spread : weigh (P .weight k) c - size c * leastWeight P k ≤ size c * spread P k
-    unfolding size spread
-    weigh-spread =
-        let top = greatest (P .states) (P .weight k) in
-        omega (arith, weigh-const top c, weigh-mono (P .weight k) (λ _. top) c (λ i l. le-greatest (P .states) (P .weight k) i (omega arith)), mul-sub (size c) top (leastWeight P k))
-
-    rankAt-le : rankAt P k c ≤ size c * (spread P k + spreadsAbove P k)
-    unfolding rankAt
-    rankAt-le = omega (arith, weigh-spread)
-
-  rank-terminal : (c : List ℕ) → terminal P c ≡ true → rank P c ≡ 0
+  rank-terminal : (c : List ℕ) → terminal P c ≡ true → rank P L w c ≡ 0
   unfolding rank
   rank-terminal c t = rw (t, rank)
 
-  rank-not-terminal : (c : List ℕ) → terminal P c ≡ false → rank P c ≡ rankAt P (lowest P c) c
+  rank-not-terminal : (c : List ℕ) → terminal P c ≡ false → rank P L w c ≡ rankAt P L w (lowest P L c) c
   unfolding rank
   rank-not-terminal c t = rw (t, rank)
 
-  pub rank-bound : WellFormed P → (c : List ℕ) → length c ≡ P .states → rank P c ≤ size c * spreads P
-  rank-bound good c long =
+  pub rank-bound : OrderedPartition P L → (c : List ℕ) → length c ≡ P .states → rank P L w c ≤ size c * spreads P L w
+  rank-bound part c long =
       by-test (terminal P c)
       (λ t. omega (arith, rank-terminal c t))
-      (λ t. omega (arith, rank-not-terminal c t, rankAt-le (lowest P c) c long, mul-le-mul-left (size c) (above-le (lowest P c) (not-terminal-lowest P c good t))))
+      (λ t. omega (
+        arith,
+        rank-not-terminal c t,
+        rankAt-le (lowest P L c) c long,
+        mul-le-mul-left (size c)
+            (above-le (lowest P L c) (not-terminal-lowest P L c part t)),
+      ))
 
-module _ (P : Protocol) (lad : Laddered P) where
+module _ (P : Protocol) {L : Layers} {w : ℕ → ℕ → ℕ} (lad : Laddered P L w) where
   -- A meeting lowers its layer's weight.
-  pub weigh-falls : (c : List ℕ) (r : ℕ) → Meeting P c r → weigh (P .weight (P .layer r)) (fire P c r) < weigh (P .weight (P .layer r)) c
+  pub weigh-falls : (c : List ℕ) (r : ℕ) → Meeting P c r → weigh (w (L .of r)) (fire P c r) < weigh (w (L .of r)) c
   unfolding lowering lowersAt
   weigh-falls c r m =
-      let low : lowersAt P r ≡ true = all-elim _ _ (lad .lowering-passes) r (m .rule) in
-      let k = weigh-fire P (lad .formed) c r m (P .weight (P .layer r)) in
+      let low : lowersAt P L w r ≡ true = all-elim _ _ (lad .lowering-passes) r (m .rule) in
+      let k = weigh-fire P (lad .formed) c r m (w (L .of r)) in
       omega (arith, k .1, k .2, ltb-true)
 
   -- Rule r of the lowest layer that has an enabled rule makes a meeting at c.
-  module _ (c : List ℕ) (r : ℕ) (m : Meeting P c r) (low : P .layer r ≡ lowest P c) where
-    lowest-rises : lowest P c ≤ lowest P (fire P c r)
+  module _ (c : List ℕ) (r : ℕ) (m : Meeting P c r) (low : L .of r ≡ lowest P L c) where
+    lowest-rises : lowest P L c ≤ lowest P L (fire P c r)
     lowest-rises =
         let d = fire P c r in
-        by-cases (decLt (lowest P d) (lowest P c))
+        by-cases (decLt (lowest P L d) (lowest P L c))
         (λ l.
         absurd (not-both
-        (lowest-active P d (omega (arith, lad .formed .layer-lt r (m .rule))))
-        (quiet-fire P lad c r m (rw low (lowest-quiet P c)) (lowest P d) (omega arith))))
+        (lowest-active P L d (omega (arith, lad .partition .covers r (m .rule))))
+        (quiet-fire P L (lad .formed) (lad .handover-passes) c r m (rw low (lowest-quiet P L c)) (lowest P L d) (omega arith))))
         (λ g. omega arith)
 
-    pub rank-falls : rank P (fire P c r) < rank P c
+    pub rank-falls : rank P L w (fire P c r) < rank P L w c
     unfolding rankAt
     rank-falls =
         by-test (terminal P d)
-        (λ t. omega (arith, rank-terminal P d t, rank-not-terminal P c going, over))
-        (λ t. by-cases (decLt i (lowest P d)) (up t) (level t))
+        (λ t. omega (arith, rank-terminal P L w d t, rank-not-terminal P L w c going, over))
+        (λ t. by-cases (decLt i (lowest P L d)) (up t) (level t))
       where
         i : ℕ
-        i = lowest P c
+        i = lowest P L c
 
         d : List ℕ
         d = fire P c r
@@ -109,44 +119,44 @@ module _ (P : Protocol) (lad : Laddered P) where
         same : size d ≡ size c
         same = size-fire P (lad .formed) c r m
 
-        lighter : weigh (P .weight i) d < weigh (P .weight i) c
+        lighter : weigh (w i) d < weigh (w i) c
         lighter = rw low at (weigh-falls c r m)
 
         going : terminal P c ≡ false
         going = meeting-not-terminal P c r m
 
-        leasts : size d * leastWeight P i ≡ size c * leastWeight P i
-        leasts = ap (λ n. n * leastWeight P i) same
+        leasts : size d * least (P .states) (w i) ≡ size c * least (P .states) (w i)
+        leasts = ap (λ n. n * least (P .states) (w i)) same
 
-        aboves : size d * spreadsAbove P i ≡ size c * spreadsAbove P i
-        aboves = ap (λ n. n * spreadsAbove P i) same
+        aboves : size d * spreadsAbove P L w i ≡ size c * spreadsAbove P L w i
+        aboves = ap (λ n. n * spreadsAbove P L w i) same
 
-        here : rankAt P i d < rankAt P i c
-        here = omega (arith, weigh-least P i d long, lighter, leasts, aboves)
+        here : rankAt P L w i d < rankAt P L w i c
+        here = omega (arith, weigh-least (P .states) (w i) d long, lighter, leasts, aboves)
 
-        over : size d * spreadsAbove P i < rankAt P i c
-        over = omega (arith, weigh-least P i d long, lighter, leasts, aboves)
+        over : size d * spreadsAbove P L w i < rankAt P L w i c
+        over = omega (arith, weigh-least (P .states) (w i) d long, lighter, leasts, aboves)
 
-        level : terminal P d ≡ false → ¬ (i < lowest P d) → rank P d < rank P c
+        level : terminal P d ≡ false → ¬ (i < lowest P L d) → rank P L w d < rank P L w c
         level t g =
-            let e : lowest P d ≡ i = omega (arith, lowest-rises) in
-            omega (arith, rank-not-terminal P d t, ap (λ k. rankAt P k d) e, rank-not-terminal P c going, here)
+            let e : lowest P L d ≡ i = omega (arith, lowest-rises) in
+            omega (arith, rank-not-terminal P L w d t, ap (λ k. rankAt P L w k d) e, rank-not-terminal P L w c going, here)
 
-        up : terminal P d ≡ false → i < lowest P d → rank P d < rank P c
+        up : terminal P d ≡ false → i < lowest P L d → rank P L w d < rank P L w c
         up t l =
             omega (
               arith,
-              rank-not-terminal P d t,
-              rankAt-le P (lowest P d) d long,
-              mul-le-mul-left (size d) (above-step P i (lowest P d) l (not-terminal-lowest P d (lad .formed) t)),
-              rank-not-terminal P c going,
+              rank-not-terminal P L w d t,
+              rankAt-le P L w (lowest P L d) d long,
+              mul-le-mul-left (size d) (above-step P L w i (lowest P L d) l (not-terminal-lowest P L d (lad .partition) t)),
+              rank-not-terminal P L w c going,
               over,
             )
 
-  pub rank-positive : (c : List ℕ) → length c ≡ P .states → terminal P c ≡ false → 0 < rank P c
+  pub rank-positive : (c : List ℕ) → length c ≡ P .states → terminal P c ≡ false → 0 < rank P L w c
   rank-positive c long t =
-      let f = active-elim P c (lowest P c) (lowest-active P c (not-terminal-lowest P c (lad .formed) t)) in
+      let f = active-elim P L c (lowest P L c) (lowest-active P L c (not-terminal-lowest P L c (lad .partition) t)) in
       omega (arith, rank-falls c (f .0) (record { sized = long; rule = f .1; on = f .3 }) (f .2))
 
-  pub rank-zero : (c : List ℕ) → length c ≡ P .states → (rank P c ≡ 0) ↔ (terminal P c ≡ true)
-  rank-zero c long = (λ e. is-true _ (λ t. omega (arith, rank-positive c long t)), rank-terminal P c)
+  pub rank-zero : (c : List ℕ) → length c ≡ P .states → (rank P L w c ≡ 0) ↔ (terminal P c ≡ true)
+  rank-zero c long = (λ e. is-true _ (λ t. omega (arith, rank-positive c long t)), rank-terminal P L w c)

@@ -9,8 +9,8 @@ use native.Mathlib.Nat.{eq-zero-or-pos, mul-le-mul-left}
 use lib.ListN.{length}
 use lib.Dec.{ltb, eqb}
 use borrow.Author.Tests.{ltb-true, eq-eqb, ne-eqb}
-use Rattle.theory.specs.Test.{bit}
-use Rattle.theory.specs.Test.Laws.{not-both, and-elim, or-none}
+use Rattle.theory.specs.Bool.{bit}
+use Rattle.theory.specs.Bool.Laws.{not-both, and-elim, or-none}
 use Rattle.theory.specs.Below.{sumBelow}
 use Rattle.theory.specs.Below.Laws.{sum-zero, sum-add, sum-mono, sum-same, sum-one}
 use Rattle.theory.specs.Weigh.{weigh}
@@ -43,7 +43,8 @@ pairs-sum m w x a b (suc n) ha hb =
 
 module _ (P : Protocol) (good : WellFormed P) {x : ℕ → ℕ} {c d : List ℕ} (long : length c ≡ P .states) (h : Potential P x c d) where
   -- The flow equation of a weight.
-  pub flow-weigh : (w : ℕ → ℕ) → weigh w d + sumBelow (P .rules) (λ r. x r * (w (P .p r) + w (P .q r))) ≡ weigh w c + sumBelow (P .rules) (λ r. x r * (w (P .p′ r) + w (P .q′ r)))
+  pub flow-weigh : (w : ℕ → ℕ) → weigh w d + sumBelow (P .rules) (λ r. x r * (w (P .p r) + w (P .q r))) ≡ weigh w c + sumBelow (P .rules)
+      (λ r. x r * (w (P .p′ r) + w (P .q′ r)))
   flow-weigh w =
       let into : ℕ → ℕ = λ s. sumBelow (P .rules) (λ r. x r * post P r s) in
       let out : ℕ → ℕ = λ s. sumBelow (P .rules) (λ r. x r * pre P r s) in
@@ -96,10 +97,12 @@ module _ (P : Protocol) (good : WellFormed P) {x : ℕ → ℕ} {c d : List ℕ}
           (eq-zero-or-pos (x r)),
     )
       where
-        none : (a b : ℕ → ℕ) → ((r : ℕ) → r < P .rules → 0 < x r → A (a r) || A (b r) ≡ false) → sumBelow (P .rules) (λ r. x r * (bit (A (a r)) + bit (A (b r)))) ≡ 0
+        none : (a b : ℕ → ℕ) → ((r : ℕ) → r < P .rules → 0 < x r → A (a r) || A (b r) ≡ false)
+            → sumBelow (P .rules) (λ r. x r * (bit (A (a r)) + bit (A (b r)))) ≡ 0
         none a b out =
             sum-same (P .rules) (λ r. x r * (bit (A (a r)) + bit (A (b r)))) (λ _. 0)
-            (λ r l. ⊎-elim (λ (z : x r ≡ 0). rw z (omega arith)) (λ (z : 0 < x r). rw (pair-weightless A (a r) (b r) (out r l z)) (omega arith)) (eq-zero-or-pos (x r)))
+            (λ r l. ⊎-elim (λ (z : x r ≡ 0). rw z (omega arith)) (λ (z : 0 < x r). rw (pair-weightless A (a r) (b r) (out r l z)) (omega arith))
+            (eq-zero-or-pos (x r)))
             ∙ sum-zero (P .rules)
 
     -- The rules of u are known not to fire.

@@ -1,4 +1,5 @@
--- Observation 4.8 of the paper: what a list of rule numbers reaches is potentially reachable through how often each rule fires in it. Assumes nothing.
+-- Observation 4.8 of the paper: what a list of rule numbers reaches is potentially reachable through how often each rule
+-- fires in it. Assumes nothing.
 use mathlib.Core.Path.{_≡_, refl, ap, _∙_, subst, fun-ext}
 use mathlib.Core.Bool.{Bool, true, false, _&&_}
 use mathlib.Core.List.{List, [], _∷_}
@@ -7,8 +8,8 @@ use native.Mathlib.Omega.{arith}
 use lib.ListN.{length}
 use lib.Dec.{eqb}
 use borrow.Author.Tests.{ltb-true, eqb-true, eq-eqb, ne-eqb}
-use Rattle.theory.specs.Test.{bit}
-use Rattle.theory.specs.Test.Laws.{by-test, and-elim, and-intro}
+use Rattle.theory.specs.Bool.{bit}
+use Rattle.theory.specs.Bool.Laws.{by-test, and-elim, and-intro}
 use Rattle.theory.specs.Below.{sumBelow}
 use Rattle.theory.specs.Below.Laws.{sum-add, sum-one}
 use Rattle.theory.specs.Weigh.Laws.{pair-outside, pair-weightless}
@@ -17,7 +18,8 @@ use Rattle.theory.specs.Protocol.Laws.{count-fire, weigh-fire}
 use Rattle.theory.specs.Protocol.Lists.{meeting, length-tried, tried-fires, tried-not, length-after, each-map, forward, backward}
 use Rattle.theory.specs.Tree.{takes, puts, isTrap, isSiphon}
 use Rattle.theory.specs.Tree.Traps.{follows-none}
-use Rattle.theory.specs.Potential.{countIn, Potential, Reach, parikh}
+use Rattle.theory.specs.Potential.Runs.{Reach, parikh}
+use Rattle.theory.specs.Potential.{countIn, Potential}
 
 module _ (P : Protocol) where
   -- The rule of every meeting of a list fires in the list.
@@ -26,7 +28,8 @@ module _ (P : Protocol) where
   each-fires c [] = tt
   each-fires c (i ∷ is) = (
     λ a. omega (arith, ap bit (and-intro _ _ a (eq-eqb i i refl))),
-    each-map P (λ _ r. 0 < parikh P (tried P c i) is r) (λ _ r. 0 < parikh P c (i ∷ is) r) (λ _ r l. omega arith) (tried P c i) is (each-fires (tried P c i) is),
+    each-map P (λ _ r. 0 < parikh P (tried P c i) is r) (λ _ r. 0 < parikh P c (i ∷ is) r) (λ _ r l. omega arith) (tried P c i) is
+        (each-fires (tried P c i) is),
   )
 
   -- What is true of the rule of every meeting is true of every rule that fires in the list.
@@ -70,7 +73,17 @@ module _ (P : Protocol) where
         let into = parikh-sum (λ r. post P r s) c i is in
         let out = parikh-sum (λ r. pre P r s) c i is in
         by-test (fires P c i)
-        (λ e. omega (arith, ih, into, out, count-fire P good c i (meeting P c i long e) s, ap (λ d. count d s) (tried-fires P c i e), ap (λ b. bit b * pre P i s) e, ap (λ b. bit b * post P i s) e))
+        (λ e. omega (
+          arith,
+          ih,
+          into,
+          out,
+          count-fire P good c i (meeting P c i long e) s,
+          ap (λ d. count d s) (tried-fires P c i e),
+          ap
+              (λ b. bit b * pre P i s) e,
+          ap (λ b. bit b * post P i s) e,
+        ))
         (λ e. omega (arith, ih, into, out, ap (λ d. count d s) (tried-not P c i e), ap (λ b. bit b * pre P i s) e, ap (λ b. bit b * post P i s) e))
 
     module _ (c rs : List ℕ) (long : length c ≡ P .states) where
@@ -108,7 +121,14 @@ module _ (P : Protocol) where
 
       pub reached : Potential P (parikh P c rs) c (after P c rs)
       unfolding idle
-      reached = record { sized = length-after P c rs ∙ long; flow = λ s _. flow c rs long s; traps = λ A t e r _. trap-run A t e r; siphons = λ A t e r _. siphon-run A t e r }
+      reached =
+          record {
+            sized = length-after P c rs
+                ∙ long;
+            flow = λ s _. flow c rs long s;
+            traps = λ A t e r _. trap-run A t e r;
+            siphons = λ A t e r _. siphon-run A t e r;
+          }
 
   -- What a list of rule numbers reaches, as a run.
   abbrev pub reach : WellFormed P → (c rs : List ℕ) → length c ≡ P .states → Reach P c

@@ -9,12 +9,14 @@ use native.Mathlib.Decide.{ℕ-discrete}
 use lib.ListN.{length, set, length-set}
 use lib.Dec.{ltb, eqb}
 use borrow.Author.Tests.{ltb-true, ltb-false, lt-ltb, le-ltb, eqb-true, eqb-false, eq-eqb, ne-eqb, not-true, not-false}
-use Rattle.theory.specs.Test.{bit}
-use Rattle.theory.specs.Test.Laws.{by-test, is-true, is-false, not-same, and-intro, and-elim, and-fails, imp-intro, imp-elim, imp-fails, beq-true, beq-false, eq-beq}
+use Rattle.theory.specs.Bool.{bit}
+use Rattle.theory.specs.Bool.Laws.{by-test, not-both, is-true, is-false, not-same, and-intro, and-elim, and-fails, imp-intro, imp-elim}
+use Rattle.theory.specs.Bool.Laws.{imp-fails, beq-true, beq-false, eq-beq}
 use Rattle.theory.specs.Below.Laws.{all-elim, all-intro, all-fails, first-lowest, first-is}
 use Rattle.theory.specs.Weigh.{weigh}
 use Rattle.theory.specs.Weigh.Laws.{weigh-set, weigh-some, weigh-one, occupied-lt}
-use Rattle.theory.specs.Protocol.{Protocol, WellFormed, agreed, mixed, count, size, lose, gain, pre, post, enabled, fire, terminal, Shows, shows, verdict, Start, unfit, startTest}
+use Rattle.theory.specs.Protocol.{Protocol, WellFormed, agreed, mixed, count, size, lose, gain, pre, post, enabled, fire, terminal, Shows}
+use Rattle.theory.specs.Protocol.{shows, verdict, Start, unfit, startTest}
 
 -- ---- One agent less, one agent more
 
@@ -102,7 +104,15 @@ module _ (P : Protocol) (c : List ℕ) (r : ℕ) where
       same e = go (ℕ-discrete a i)
         where
           go : Dec (a ≡ i) → pre P r i ≤ count c i
-          go (yes d) = omega (arith, ltb-true 1 (count c a) (sym (enabled-same e) ∙ h), ap bit (eq-eqb _ _ d), ap bit (eq-eqb _ _ (sym (eqb-true _ _ e) ∙ d)), ap (count c) d)
+          go (yes d) =
+              omega (
+                arith,
+                ltb-true 1 (count c a) (sym (enabled-same e) ∙ h),
+                ap bit (eq-eqb _ _ d),
+                ap bit
+                    (eq-eqb _ _ (sym (eqb-true _ _ e) ∙ d)),
+                ap (count c) d,
+              )
           go (no d) = omega (arith, ap bit (ne-eqb _ _ d), ap bit (ne-eqb _ _ (λ f. d (eqb-true _ _ e ∙ f))))
 
       other : eqb a b ≡ false → pre P r i ≤ count c i
@@ -179,7 +189,8 @@ module _ (P : Protocol) (good : WellFormed P) (c : List ℕ) (r : ℕ) (m : Meet
   pub fire-moves : fire P c r ≡ c → ⊥
   fire-moves same =
       let l = m .rule in
-      let e = pair-same (P .p r) (P .q r) (P .p′ r) (P .q′ r) (good .pre-ordered r l) (good .post-ordered r l) (λ i. omega (arith, count-fire i, ap (λ d. count d i) same)) in
+      let e = pair-same (P .p r) (P .q r) (P .p′ r) (P .q′ r) (good .pre-ordered r l) (good .post-ordered r l)
+      (λ i. omega (arith, count-fire i, ap (λ d. count d i) same)) in
       good .pairs-differ r l (e .0) (e .1)
 
 -- ---- Terminal, and the output shown
@@ -202,6 +213,10 @@ module _ (P : Protocol) (c : List ℕ) where
   pub terminal-off : terminal P c ≡ true → (r : ℕ) → r < P .rules → enabled P c r ≡ false
   unfolding terminal
   terminal-off t r h = not-true _ (all-elim _ _ t r h)
+
+  -- A configuration at which a rule makes a meeting is not terminal.
+  pub meeting-not-terminal : (r : ℕ) → Meeting P c r → terminal P c ≡ false
+  meeting-not-terminal r m = is-false _ (λ t. not-both (m .on) (terminal-off t r (m .rule)))
 
   -- A configuration that is not terminal enables a rule.
   pub not-terminal-on : terminal P c ≡ false → (r : ℕ) × (r < P .rules) × (enabled P c r ≡ true)

@@ -6,8 +6,8 @@ use Prim.Native.Nat.{ℕ, _+_, _≤_, _<_}
 use native.Mathlib.Omega.{arith}
 use lib.ListN.{length}
 use borrow.Author.Tests.{ltb-true, lt-ltb}
-use Rattle.theory.specs.Test.{bit}
-use Rattle.theory.specs.Test.Laws.{by-test, not-both, and-elim, and-intro}
+use Rattle.theory.specs.Bool.{bit}
+use Rattle.theory.specs.Bool.Laws.{by-test, not-both, and-elim, and-intro}
 use Rattle.theory.specs.Protocol.{Protocol, WellFormed, size, enabled, fire, fires, tried, after, meetings, EachMeeting}
 use Rattle.theory.specs.Protocol.Laws.{Meeting, length-fire, size-fire}
 
@@ -75,7 +75,8 @@ module _ (P : Protocol) where
           let t = rest (subst I (sym (tried-not c r e)) i) in
           (t .0, (λ a. absurd (not-both a e), t .1)))
 
-      -- What each meeting of kind Q hands back, from the configuration after it to the one before, the list hands back, and each of its meetings is of kind R.
+      -- What each meeting of kind Q hands back, from the configuration after it to the one before, the list hands back,
+      -- and each of its meetings is of kind R.
       pub backward : ((c : List ℕ) (r : ℕ) → Meeting P c r → Q c r → I (fire P c r) → I c × R c r)
           → (c rs : List ℕ) → length c ≡ P .states → EachMeeting P Q c rs → I (after P c rs) → I c × EachMeeting P R c rs
       unfolding after
@@ -105,7 +106,8 @@ module _ (P : Protocol) where
     unfolding after meetings
     meetings-fall f falls c [] l q = omega arith
     meetings-fall f falls c (r ∷ rs) l q =
-        let ih : f (after P (tried P c r) rs) + meetings P (tried P c r) rs ≤ f (tried P c r) = meetings-fall f falls (tried P c r) rs (length-tried c r ∙ l) (q .1) in
+        let ih : f (after P (tried P c r) rs) + meetings P (tried P c r) rs ≤ f (tried P c r) = meetings-fall f falls (tried P c r) rs
+        (length-tried c r ∙ l) (q .1) in
         by-test (fires P c r)
         (λ e. omega (arith, falls c r (meeting c r l e) (q .0 e), ap f (tried-fires c r e), ap bit e))
         (λ e. omega (arith, ap f (tried-not c r e), ap bit e))

@@ -1,4 +1,5 @@
--- An accepted tree: all terminal configurations potentially reachable from one start show one output, whatever its size. Assumes nothing.
+-- An accepted tree: all terminal configurations potentially reachable from one start show one output, whatever its size.
+-- Assumes nothing.
 use mathlib.Core.Path.{_≡_, refl, sym, _∙_}
 use mathlib.Core.Bool.{Bool, true, false}
 use mathlib.Core.List.{List, []}
@@ -6,14 +7,14 @@ use Prim.Native.Nat.{ℕ, zero, suc, _<_}
 use native.Mathlib.Omega.{arith}
 use lib.Dec.{leb, eqb}
 use borrow.Author.Tests.{leb-true, eq-eqb}
-use Rattle.theory.specs.Test.Laws.{by-test, not-both, and-elim}
+use Rattle.theory.specs.Bool.Laws.{by-test, not-both, and-elim}
 use Rattle.theory.specs.Weigh.Laws.{weigh-some}
 use Rattle.theory.specs.Protocol.{Protocol, WellFormed, count, size, terminal, Shows, Start, after}
 use Rattle.theory.specs.Facts.Laws.{Runs, at}
 use Rattle.theory.specs.Leaf.Laws.{leaf-refutes}
 use Rattle.theory.specs.Tree.{Tree, next, disagreement, isRun, treeAnswer}
 use Rattle.theory.specs.Tree.Laws.{Assumed, tree-refutes}
-use Rattle.theory.specs.Potential.{Reach}
+use Rattle.theory.specs.Potential.Runs.{Reach}
 use Rattle.theory.specs.Potential.Laws.{even-kept}
 use Rattle.theory.specs.Potential.Reached.{reach}
 

@@ -1,4 +1,5 @@
--- The tree of arguments is sound: where the walk accepts, the assumption is false. One lemma for each kind of node. Assumes nothing.
+-- The tree of arguments is sound: where the walk accepts, the assumption is false. One lemma for each kind of node.
+-- Assumes nothing.
 use mathlib.Core.Path.{_≡_, refl, sym, ap, _∙_}
 use mathlib.Core.Bool.{Bool, true, false, _&&_, Bool·beq}
 use mathlib.Core.List.{List, [], _∷_}
@@ -9,23 +10,25 @@ use native.Mathlib.Omega.{arith}
 use lib.ListN.{getD}
 use lib.Dec.{ltb, eqb}
 use borrow.Author.Tests.{ltb-true, eqb-true}
-use Rattle.theory.specs.Test.{member}
-use Rattle.theory.specs.Test.Laws.{by-test, not-both, and-elim, imp-elim, eq-beq}
+use Rattle.theory.specs.Bool.{member}
+use Rattle.theory.specs.Bool.Laws.{by-test, not-both, and-elim, imp-elim, eq-beq}
 use Rattle.theory.specs.Below.Laws.{all-elim}
 use Rattle.theory.specs.Weigh.Laws.{set-empty, set-none, occupied-lt}
 use Rattle.theory.specs.Protocol.{Protocol, WellFormed, count, terminal, enabled}
 use Rattle.theory.specs.Protocol.Laws.{disabled-same, disabled-other, terminal-off}
 use Rattle.theory.specs.Facts.{Facts, withAbsent, withPresent, withUnused, fresh}
 use Rattle.theory.specs.Facts.Laws.{Runs, at, length-at, Holds, fresh-holds, holds-absent, holds-present, holds-at-most-one, holds-unused}
-use Rattle.theory.specs.Tree.{Tree, Assumption, Node, leaf, outputAbsent, contradiction, disabled, caseSplit, trap, siphon, bad, Answer, next, refused, checked, forest, touches, isTrap, isSiphon, within, children, isRun, ground, byKind, node, treeAt, treeAnswer}
+use Rattle.theory.specs.Tree.{Tree, Assumption, Node, leaf, outputAbsent, contradiction, disabled, caseSplit, trap, siphon, bad, Walked, next}
+use Rattle.theory.specs.Tree.{refused, checked, forest, touches, isTrap, isSiphon, within, children, isRun, ground, byKind, node, treeAt}
+use Rattle.theory.specs.Tree.{treeAnswer}
 use Rattle.theory.specs.Potential.{countIn}
 use Rattle.theory.specs.Potential.Laws.{trap-empty, siphon-empty}
 
-by-answer : {X : Type 0} (x : Answer) → ((j : ℕ) → x ≡ next j → X) → ((n j : ℕ) → x ≡ refused n j → X) → X
+by-answer : {X : Type 0} (x : Walked) → ((j : ℕ) → x ≡ next j → X) → ((n j : ℕ) → x ≡ refused n j → X) → X
 by-answer (next j) f g = f j refl
 by-answer (refused n j) f g = g n j refl
 
-refused-not-next : {n i j : ℕ} → refused n i ≡ next j → ⊥
+pub refused-not-next : {n i j : ℕ} → refused n i ≡ next j → ⊥
 refused-not-next {n} {i} {j} e = let z : _≡_ {A = ℕ} 0 1 = cc in omega arith
 
 module _ (P : Protocol) where
@@ -114,7 +117,8 @@ module _ (P : Protocol) where
         → Holds P (withUnused (withAbsent F k A) k (touches P A)) σ
     siphon-holds k A e =
         let t = and-elim _ _ e in
-        let c = siphon-empty P good (σ .starts .sized) (σ .run k .potential) A (F .unused k) (h .unused k) (t .1) (sym (ap (countIn A) (σ .still)) ∙ within-empty A 0 (t .0)) in
+        let c = siphon-empty P good (σ .starts .sized) (σ .run k .potential) A (F .unused k) (h .unused k) (t .1)
+        (sym (ap (countIn A) (σ .still)) ∙ within-empty A 0 (t .0)) in
         holds-unused P σ (withAbsent F k A) (holds-absent P σ F h k A (set-none A (at P σ k) (c .0))) k (touches P A) (c .1)
 
     module _ (H : Assumption) (a : Assumed H σ) where
@@ -155,7 +159,7 @@ module _ (P : Protocol) where
       node-holds closed bad s e = not-both {b = false} e refl
 
   module _ (good : WellFormed P) (σ : Runs P) (H : Assumption) (a : Assumed H σ) where
-    forest-refutes : (t : Facts → ℕ → Answer) → ((F : Facts) (i j : ℕ) → t F i ≡ next j → Holds P F σ → ⊥)
+    forest-refutes : (t : Facts → ℕ → Walked) → ((F : Facts) (i j : ℕ) → t F i ≡ next j → Holds P F σ → ⊥)
         → (Fs : List Facts) (i j : ℕ) → forest t Fs i ≡ next j → OneHolds σ Fs → ⊥
     unfolding forest
     forest-refutes t ih [] i j e o = o

@@ -5,9 +5,9 @@ use mathlib.Core.Logic.{_↔_, ⊎-elim}
 use Prim.Native.Nat.{ℕ, _+_, _<_}
 use native.Mathlib.Omega.{arith}
 use lib.Dec.{eqb}
-use Rattle.theory.specs.Test.{imp, bit}
-use Rattle.theory.specs.Test.Laws.{by-test, not-both, is-false, or-left, or-right, or-elim, or-resolve, imp-intro, imp-elim}
-use Rattle.theory.specs.Below.Laws.{all-elim, all-intro}
+use Rattle.theory.specs.Bool.{imp, bit}
+use Rattle.theory.specs.Bool.Laws.{not-both, is-false, or-left, or-right, or-elim, imp-intro, imp-elim}
+use Rattle.theory.specs.Below.Laws.{all-unless}
 use Rattle.theory.specs.Protocol.{Protocol, pre, post}
 use Rattle.theory.specs.Protocol.Laws.{self, in-pair}
 use Rattle.theory.specs.Tree.{takes, puts, follows}
@@ -32,8 +32,8 @@ module _ (P : Protocol) where
   pub follows-is : (u f g : ℕ → Bool) → (follows P u f g ≡ true) ↔ ((r : ℕ) → r < P .rules → u r ≡ false → f r ≡ true → g r ≡ true)
   unfolding follows
   follows-is u f g = (
-    λ h r l e. imp-elim _ _ (or-resolve _ _ e (all-elim _ _ h r l)),
-    λ h. all-intro _ _ (λ r l. by-test (u r) (or-left _ _) (λ e. or-right (u r) (imp (f r) (g r)) (imp-intro _ _ (h r l e)))),
+    λ h r l e. imp-elim _ _ (all-unless (P .rules) u (λ r. imp (f r) (g r)) .0 h r l e),
+    λ h. all-unless (P .rules) u (λ r. imp (f r) (g r)) .1 (λ r l e. imp-intro _ _ (h r l e)),
   )
 
   -- A rule not unused that does not pass g does not pass f.

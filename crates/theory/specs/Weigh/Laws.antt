@@ -10,8 +10,8 @@ use native.Mathlib.Nat.{eq-zero-or-pos, mul-le-mul-right}
 use lib.ListN.{length, getD, set, List·getD-eq-default}
 use lib.Dec.{eqb, eqb·zero-suc, eqb·suc-zero, eqb·suc-suc}
 use borrow.Author.Tests.{eq-eqb}
-use Rattle.theory.specs.Test.{bit}
-use Rattle.theory.specs.Test.Laws.{by-test, is-false, or-none, or-fails}
+use Rattle.theory.specs.Bool.{bit}
+use Rattle.theory.specs.Bool.Laws.{by-test, is-false, or-none, or-fails}
 use Rattle.theory.specs.Below.{sumBelow}
 use Rattle.theory.specs.Below.Laws.{sum-front, sum-mono, sum-add}
 use Rattle.theory.specs.Weigh.{weigh}
@@ -22,7 +22,8 @@ unfolding weigh
 weigh-set w [] i v h = omega arith
 weigh-set w (x ∷ xs) zero v h = omega arith
 weigh-set w (x ∷ xs) (suc i) v h =
-    let ih : weigh (λ k. w (suc k)) (set xs i v) + w (suc i) * getD xs i 0 ≡ weigh (λ k. w (suc k)) xs + w (suc i) * v = weigh-set (λ k. w (suc k)) xs i v (omega arith) in
+    let ih : weigh (λ k. w (suc k)) (set xs i v) + w (suc i) * getD xs i 0 ≡ weigh (λ k. w (suc k)) xs + w (suc i) * v = weigh-set
+    (λ k. w (suc k)) xs i v (omega arith) in
     omega arith
 
 -- The weighed sum as a sum over the indices.

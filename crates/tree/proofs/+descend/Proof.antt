@@ -1,202 +1,122 @@
--- Each branch is a case of the walk, whose children are walked with one node of depth less; the depth left is the measure.
-use borrow.Author.Needs.{needs}
-use Rattle.tree.specs.Tree.Laws.{steps}
+-- Each branch is a case of the walk, whose children are walked with one node of depth less; the depth left is the
+-- measure.
 use Prim.Native.Nat.{ℕ, _<_}
+use borrow.Author.Needs.{needs}
 use borrow.Fn.Kinds.{In}
 use borrow.Fn.PlainCycle.{Measures, is, falls, and}
-use Rattle.tree.proofs.descend.Reads as descend
-use Rattle.tree.proofs.descend.Kinds as descend-kinds
-use Rattle.tree.proofs.+descend.Lts-descend as descend-lts
 use Rattle.node.proofs.node_step.Reads as node-step-reads
+use Rattle.tree.specs.Code.Laws.{steps}
+use Rattle.tree.proofs.refuse.Reads as refuse-reads
+use Rattle.tree.proofs.descend.Reads as descend
+use Rattle.tree.proofs.descend.Kinds as kinds
+use Rattle.tree.proofs.+descend.Lts-descend as lts
 use Rattle.tree.proofs.+descend.{statement}
 use Rattle.tree.proofs.+descend.Tie.{close}
 
-abbrev μ-descend : Measures 3 descend-kinds.ps ℕ
-μ-descend κs a = a .1 .1 .1 .1 .1 .0
+abbrev μ : Measures 4 kinds.ps ℕ
+μ κs a = a .1 .1 .1 .1 .1 .1 .0
 
-abbrev descend-at : ℕ → In 3 descend-kinds.ps
-descend-at t = and 3 descend-kinds.ps (is 3 descend-kinds.ps μ-descend t) descend.Pre
+-- What is known of the functions that are called, and what is asked at the start, where the measure is t.
+module _ (t : ℕ) where
+  abbrev claims : lts.Claims
+  claims = (
+    refuse-reads.Asked,
+    refuse-reads.Learnt,
+    node-step-reads.Asked,
+    node-step-reads.Learnt,
+    and 4 kinds.ps (falls 4 kinds.ps _<_ μ t) descend.Pre,
+    descend.Post,
+  )
 
-abbrev descend-below : ℕ → In 3 descend-kinds.ps
-descend-below t = and 3 descend-kinds.ps (falls 3 descend-kinds.ps _<_ μ-descend t) descend.Pre
+  abbrev asked : In 4 kinds.ps
+  asked = and 4 kinds.ps (is 4 kinds.ps μ t) descend.Pre
 
-descend-returns : (t : ℕ) → descend-lts.Need-returns (
-  node-step-reads.Asked,
-  node-step-reads.Learnt,
-  descend-below t,
-  descend.Post,
-) (descend-at t) descend.Post
-descend-returns t c = search (steps, needs)
+  refuse-requires : lts.Need-refuse-requires claims asked descend.Post
+  refuse-requires c κs = search needs
 
-descend-cast-place : (t : ℕ) → descend-lts.Need-cast-place (
-  node-step-reads.Asked,
-  node-step-reads.Learnt,
-  descend-below t,
-  descend.Post,
-) (descend-at t) descend.Post
-descend-cast-place t c = search needs
+  returns : lts.Need-returns claims asked descend.Post
+  returns c = search (steps, needs)
 
-descend-returns-2 : (t : ℕ) → descend-lts.Need-returns-2 (
-  node-step-reads.Asked,
-  node-step-reads.Learnt,
-  descend-below t,
-  descend.Post,
-) (descend-at t) descend.Post
-descend-returns-2 t c = search (steps, needs)
+  refuse-requires-2 : lts.Need-refuse-requires-2 claims asked descend.Post
+  refuse-requires-2 c κs = search needs
 
-descend-node-step-requires : (t : ℕ) → descend-lts.Need-node-step-requires (
-  node-step-reads.Asked,
-  node-step-reads.Learnt,
-  descend-below t,
-  descend.Post,
-) (descend-at t) descend.Post
-descend-node-step-requires t c κs = search needs
+  returns-2 : lts.Need-returns-2 claims asked descend.Post
+  returns-2 c = search (steps, needs)
 
-descend-add-next : (t : ℕ) → descend-lts.Need-add-next (
-  node-step-reads.Asked,
-  node-step-reads.Learnt,
-  descend-below t,
-  descend.Post,
-) (descend-at t) descend.Post
-descend-add-next t c = search needs
+  node-step-requires : lts.Need-node-step-requires claims asked descend.Post
+  node-step-requires c κs = search needs
 
-descend-enum-known-outcome : (t : ℕ) → descend-lts.Need-enum-known-outcome (
-  node-step-reads.Asked,
-  node-step-reads.Learnt,
-  descend-below t,
-  descend.Post,
-) (descend-at t) descend.Post
-descend-enum-known-outcome t c = search needs
+  add-next : lts.Need-add-next claims asked descend.Post
+  add-next c = search needs
 
-descend-enum-told : (t : ℕ) → descend-lts.Need-enum-told (
-  node-step-reads.Asked,
-  node-step-reads.Learnt,
-  descend-below t,
-  descend.Post,
-) (descend-at t) descend.Post
-descend-enum-told t c = search needs
+  enum-known-outcome : lts.Need-enum-known-outcome claims asked descend.Post
+  enum-known-outcome c = search needs
 
-descend-enum-told-2 : (t : ℕ) → descend-lts.Need-enum-told-2 (
-  node-step-reads.Asked,
-  node-step-reads.Learnt,
-  descend-below t,
-  descend.Post,
-) (descend-at t) descend.Post
-descend-enum-told-2 t c = search needs
+  refuse-requires-3 : lts.Need-refuse-requires-3 claims asked descend.Post
+  refuse-requires-3 c κs = search needs
 
-descend-descend-requires : (t : ℕ) → descend-lts.Need-descend-requires (
-  node-step-reads.Asked,
-  node-step-reads.Learnt,
-  descend-below t,
-  descend.Post,
-) (descend-at t) descend.Post
-descend-descend-requires t c κs = search needs
+  enum-told : lts.Need-enum-told claims asked descend.Post
+  enum-told c = search needs
 
-descend-enum-told-3 : (t : ℕ) → descend-lts.Need-enum-told-3 (
-  node-step-reads.Asked,
-  node-step-reads.Learnt,
-  descend-below t,
-  descend.Post,
-) (descend-at t) descend.Post
-descend-enum-told-3 t c = search needs
+  enum-told-2 : lts.Need-enum-told-2 claims asked descend.Post
+  enum-told-2 c = search needs
 
-descend-descend-requires-2 : (t : ℕ) → descend-lts.Need-descend-requires-2 (
-  node-step-reads.Asked,
-  node-step-reads.Learnt,
-  descend-below t,
-  descend.Post,
-) (descend-at t) descend.Post
-descend-descend-requires-2 t c κs = search needs
+  descend-requires : lts.Need-descend-requires claims asked descend.Post
+  descend-requires c κs = search needs
 
-descend-enum-known-below : (t : ℕ) → descend-lts.Need-enum-known-below (
-  node-step-reads.Asked,
-  node-step-reads.Learnt,
-  descend-below t,
-  descend.Post,
-) (descend-at t) descend.Post
-descend-enum-known-below t c = search needs
+  enum-told-3 : lts.Need-enum-told-3 claims asked descend.Post
+  enum-told-3 c = search needs
 
-descend-enum-told-4 : (t : ℕ) → descend-lts.Need-enum-told-4 (
-  node-step-reads.Asked,
-  node-step-reads.Learnt,
-  descend-below t,
-  descend.Post,
-) (descend-at t) descend.Post
-descend-enum-told-4 t c = search needs
+  descend-requires-2 : lts.Need-descend-requires-2 claims asked descend.Post
+  descend-requires-2 c κs = search needs
 
-descend-returns-3 : (t : ℕ) → descend-lts.Need-returns-3 (
-  node-step-reads.Asked,
-  node-step-reads.Learnt,
-  descend-below t,
-  descend.Post,
-) (descend-at t) descend.Post
-descend-returns-3 t c = search (steps, needs)
+  enum-known-below : lts.Need-enum-known-below claims asked descend.Post
+  enum-known-below c = search needs
 
-descend-descend-requires-3 : (t : ℕ) → descend-lts.Need-descend-requires-3 (
-  node-step-reads.Asked,
-  node-step-reads.Learnt,
-  descend-below t,
-  descend.Post,
-) (descend-at t) descend.Post
-descend-descend-requires-3 t c κs = search needs
+  enum-told-4 : lts.Need-enum-told-4 claims asked descend.Post
+  enum-told-4 c = search needs
 
-descend-returns-4 : (t : ℕ) → descend-lts.Need-returns-4 (
-  node-step-reads.Asked,
-  node-step-reads.Learnt,
-  descend-below t,
-  descend.Post,
-) (descend-at t) descend.Post
-descend-returns-4 t c = search (steps, needs)
+  returns-3 : lts.Need-returns-3 claims asked descend.Post
+  returns-3 c = search (steps, needs)
 
-descend-returns-5 : (t : ℕ) → descend-lts.Need-returns-5 (
-  node-step-reads.Asked,
-  node-step-reads.Learnt,
-  descend-below t,
-  descend.Post,
-) (descend-at t) descend.Post
-descend-returns-5 t c = search (steps, needs)
+  descend-requires-3 : lts.Need-descend-requires-3 claims asked descend.Post
+  descend-requires-3 c κs = search needs
 
-descend-returns-6 : (t : ℕ) → descend-lts.Need-returns-6 (
-  node-step-reads.Asked,
-  node-step-reads.Learnt,
-  descend-below t,
-  descend.Post,
-) (descend-at t) descend.Post
-descend-returns-6 t c = search (steps, needs)
+  returns-4 : lts.Need-returns-4 claims asked descend.Post
+  returns-4 c = search (steps, needs)
 
-descend-returns-7 : (t : ℕ) → descend-lts.Need-returns-7 (
-  node-step-reads.Asked,
-  node-step-reads.Learnt,
-  descend-below t,
-  descend.Post,
-) (descend-at t) descend.Post
-descend-returns-7 t c = search (steps, needs)
+  returns-5 : lts.Need-returns-5 claims asked descend.Post
+  returns-5 c = search (steps, needs)
+
+  returns-6 : lts.Need-returns-6 claims asked descend.Post
+  returns-6 c = search (steps, needs)
+
+  returns-7 : lts.Need-returns-7 claims asked descend.Post
+  returns-7 c = search (steps, needs)
 
 pub +descend-spec : {M : Type 1} → statement M
-+descend-spec = close μ-descend λ t. descend-lts.spec (
-  node-step-reads.Asked,
-  node-step-reads.Learnt,
-  descend-below t,
-  descend.Post,
-)
-    (descend-at t)
-    descend.Post
-    (descend-returns t)
-    (descend-cast-place t)
-    (descend-returns-2 t)
-    (descend-node-step-requires t)
-    (descend-add-next t)
-    (descend-enum-known-outcome t)
-    (descend-enum-told t)
-    (descend-enum-told-2 t)
-    (descend-descend-requires t)
-    (descend-enum-told-3 t)
-    (descend-descend-requires-2 t)
-    (descend-enum-known-below t)
-    (descend-enum-told-4 t)
-    (descend-returns-3 t)
-    (descend-descend-requires-3 t)
-    (descend-returns-4 t)
-    (descend-returns-5 t)
-    (descend-returns-6 t)
-    (descend-returns-7 t)
++descend-spec =
+    close μ
+    (λ t.
+    lts.spec (claims t) (asked t) descend.Post
+    (refuse-requires t)
+    (returns t)
+    (refuse-requires-2 t)
+    (returns-2 t)
+    (node-step-requires t)
+    (add-next t)
+    (enum-known-outcome t)
+    (refuse-requires-3 t)
+    (enum-told t)
+    (enum-told-2 t)
+    (descend-requires t)
+    (enum-told-3 t)
+    (descend-requires-2 t)
+    (enum-known-below t)
+    (enum-told-4 t)
+    (returns-3 t)
+    (descend-requires-3 t)
+    (returns-4 t)
+    (returns-5 t)
+    (returns-6 t)
+    (returns-7 t))

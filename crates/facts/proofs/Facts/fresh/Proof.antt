@@ -1,5 +1,5 @@
 -- Of the states those that are no inputs are absent at the start, and all other words are empty.
-use Rattle.facts.specs.Facts.Laws.{fresh-words}
+use Rattle.facts.specs.Code.Laws.{fresh-words}
 use borrow.Author.Needs.{needs}
 use Rattle.facts.proofs.Facts.fresh.Statement.{statement}
 use Rattle.facts.proofs.Facts.fresh.Tie as tie

@@ -1,5 +1,5 @@
 -- The word of the party is joined with the set; where there is no such party nothing is to be marked.
-use Rattle.facts.specs.Facts.Laws.{marks}
+use Rattle.facts.specs.Code.Laws.{marks}
 use borrow.Author.Needs.{needs}
 use Rattle.facts.proofs.Facts.mark_absent.Statement.{statement}
 use Rattle.facts.proofs.Facts.mark_absent.Tie as tie

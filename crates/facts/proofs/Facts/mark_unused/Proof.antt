@@ -2,7 +2,7 @@
 use borrow.Author.Needs.{needs}
 use Rattle.facts.proofs.Facts.mark_unused.Statement.{statement}
 use Rattle.facts.proofs.Facts.mark_unused.Tie as tie
-use Rattle.facts.specs.Facts.Laws.{marks}
+use Rattle.facts.specs.Code.Laws.{marks}
 
 returns : tie.Need-returns
 returns c = search (marks, needs)

@@ -1,5 +1,5 @@
 -- A party's set is one word; past the last party there is none.
-use Rattle.facts.specs.Facts.Laws.{word-is, word-past}
+use Rattle.facts.specs.Code.Laws.{states-word, states-outside-party}
 use borrow.Author.Needs.{needs}
 use Rattle.facts.proofs.Facts.present.Statement.{statement}
 use Rattle.facts.proofs.Facts.present.Tie as tie
@@ -11,10 +11,10 @@ element-copy-out-result : tie.Need-element-copy-out-result
 element-copy-out-result c = search needs
 
 returns : tie.Need-returns
-returns c = search (word-is, needs)
+returns c = search (states-word, needs)
 
 returns-2 : tie.Need-returns-2
-returns-2 c = search (word-past, needs)
+returns-2 c = search (states-outside-party, needs)
 
 pub present-spec : {M : Type 1} → statement M
 present-spec = tie.close (tie.spec mul-result element-copy-out-result returns returns-2)

@@ -2,13 +2,13 @@
 use borrow.Author.Needs.{needs}
 use Rattle.facts.proofs.Facts.unused.Statement.{statement}
 use Rattle.facts.proofs.Facts.unused.Tie as tie
-use Rattle.facts.specs.Facts.Laws.{words-past, word-none, rules-word}
+use Rattle.facts.specs.Code.Laws.{rules-outside-run, rules-outside-word, rules-word}
 
 returns : tie.Need-returns
-returns c = search (words-past, needs)
+returns c = search (rules-outside-run, needs)
 
 returns-2 : tie.Need-returns-2
-returns-2 c = search (word-none, needs)
+returns-2 c = search (rules-outside-word, needs)
 
 mul-result : tie.Need-mul-result
 mul-result c = search needs

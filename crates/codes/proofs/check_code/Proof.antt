@@ -1,0 +1,23 @@
+-- `codes::check_code` meets its contract: each arm is the definition's case.
+use Rattle.codes.specs.Codes.Laws.{check-refused}
+use borrow.Author.Needs.{needs}
+use Rattle.codes.proofs.check_code.Statement.{statement}
+use Rattle.codes.proofs.check_code.Tie as tie
+
+enum-told : tie.Need-enum-told
+enum-told c = search needs
+
+enum-known-a : tie.Need-enum-known-a
+enum-known-a c = search needs
+
+check-refusal-requires : tie.Need-check-refusal-requires
+check-refusal-requires c κs = search needs
+
+returns : tie.Need-returns
+returns c = search needs
+
+returns-2 : tie.Need-returns-2
+returns-2 c = search (check-refused, needs)
+
+pub check-code-spec : {M : Type 1} → statement M
+check-code-spec = tie.close (tie.spec enum-told enum-known-a check-refusal-requires returns returns-2)

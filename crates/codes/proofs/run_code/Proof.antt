@@ -1,0 +1,23 @@
+-- `codes::run_code` meets its contract: each arm is the definition's case.
+use Rattle.codes.specs.Codes.Laws.{run-refused}
+use borrow.Author.Needs.{needs}
+use Rattle.codes.proofs.run_code.Statement.{statement}
+use Rattle.codes.proofs.run_code.Tie as tie
+
+enum-told : tie.Need-enum-told
+enum-told c = search needs
+
+enum-known-a : tie.Need-enum-known-a
+enum-known-a c = search needs
+
+call-refusal-requires : tie.Need-call-refusal-requires
+call-refusal-requires c κs = search needs
+
+returns : tie.Need-returns
+returns c = search needs
+
+returns-2 : tie.Need-returns-2
+returns-2 c = search (run-refused, needs)
+
+pub run-code-spec : {M : Type 1} → statement M
+run-code-spec = tie.close (tie.spec enum-told enum-known-a call-refusal-requires returns returns-2)

@@ -1,0 +1,75 @@
+-- What C is handed: 0, or a refusal; and the values behind the out-parameters, which a refusal leaves as they were.
+use Prim.Native.Nat.{ℕ, _+_, _*_}
+use Rattle.theory.specs.Bool.{bit}
+use Rattle.theory.specs.Machine.{Reply, stepped, ran, refused}
+use Rattle.shape.specs.Shape.{refusal}
+use Rattle.shape.specs.declared.Refusal.{Refusal}
+use Rattle.checker.specs.declared.Checked.{Checked}
+use Rattle.checker.specs.declared.Checked.the-variants as checked
+use Rattle.machine.specs.declared.Started.{Started}
+use Rattle.machine.specs.declared.Started.the-variants as started
+use Rattle.machine.specs.declared.YesNo.{YesNo}
+use Rattle.machine.specs.declared.YesNo.the-variants as yesNo
+use Rattle.machine.specs.declared.Verdict.{Verdict}
+use Rattle.machine.specs.declared.Verdict.the-variants as shown
+pub mod Laws
+
+-- ---- Refusals
+
+-- A refusal of the check: number times 65,536 plus place.
+abbrev pub code : Refusal → ℕ
+code r = r .number * 65536 + r .place
+
+-- A refusal of another call. Its place may be any 32-bit number (the rule number of 23 and 24), so it is number times
+-- 4,294,967,296 plus place.
+abbrev pub callCode : Refusal → ℕ
+callCode r = r .number * 4294967296 + r .place
+
+-- ---- What each call returns: 0, or its refusal
+
+abbrev pub checkCode : Checked → ℕ
+checkCode (checked.Accepted f) = 0
+checkCode (checked.Refused r) = code r
+
+abbrev pub startCode : Started → ℕ
+startCode started.Start = 0
+startCode (started.Refused r) = callCode r
+
+abbrev pub yesNoCode : YesNo → ℕ
+yesNoCode (yesNo.Is t) = 0
+yesNoCode (yesNo.Refused r) = callCode r
+
+abbrev pub verdictCode : Verdict → ℕ
+verdictCode (shown.Agreed v) = 0
+verdictCode shown.Mixed = 0
+verdictCode (shown.Refused r) = callCode r
+
+abbrev pub replyCode : Reply → ℕ
+replyCode stepped = 0
+replyCode (ran n rests) = 0
+replyCode (refused n k) = callCode (refusal n k)
+
+-- ---- What each call writes where `old` stood; a refusal leaves it there
+
+-- 1 for yes, 0 for no.
+abbrev pub yesNoValue : ℕ → YesNo → ℕ
+yesNoValue old (yesNo.Is t) = bit t
+yesNoValue old (yesNo.Refused r) = old
+
+-- 0, 1, or 2 for mixed.
+abbrev pub verdictValue : ℕ → Verdict → ℕ
+verdictValue old (shown.Agreed v) = bit v
+verdictValue old shown.Mixed = 2
+verdictValue old (shown.Refused r) = old
+
+-- The steps of a run.
+abbrev pub replySteps : ℕ → Reply → ℕ
+replySteps old stepped = old
+replySteps old (ran n rests) = n
+replySteps old (refused n k) = old
+
+-- 1 for a run that rests, 0 for another.
+abbrev pub replyRests : ℕ → Reply → ℕ
+replyRests old stepped = old
+replyRests old (ran n rests) = bit rests
+replyRests old (refused n k) = old

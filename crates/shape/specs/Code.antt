@@ -1,0 +1,65 @@
+-- What the functions of the shape answer, beside the tests themselves, and the lengths that callers use.
+use mathlib.Core.Path.{_≡_}
+use mathlib.Core.Bool.{Bool, _&&_}
+use mathlib.Core.List.{List, []}
+use Prim.Native.Nat.{ℕ, _%_}
+use lib.Dec.{ltb}
+use lib.ListN.{length}
+use Rattle.theory.specs.Below.{anyBelow}
+use Rattle.theory.specs.Judge.{judge}
+use Rattle.format.specs.Format.{statesLength, rulesLength, layersLength, nodesLength, leavesLength, sectionsOf}
+use Rattle.format.specs.Format.{isInput, ruleP, ruleQ}
+use Rattle.format.specs.Code.{sections}
+use Rattle.format.specs.declared.Sizes.{Sizes}
+use Rattle.format.specs.declared.Header.{Header}
+use Rattle.shape.specs.Shape.{refusal, otherBits, badRule, samePair, inLayer, tooLarge, sectionTests}
+use Rattle.shape.specs.declared.Property.{Property}
+use Rattle.shape.specs.declared.Property.the-variants.{Flags, Input, Rule, Pair, Layer, Weight}
+use Rattle.shape.specs.declared.Refusal.{Refusal}
+use Rattle.shape.specs.declared.Tested.{Tested}
+use Rattle.shape.specs.declared.Tested.the-variants.{Passed, Failed}
+use Rattle.shape.specs.declared.Shape.{Shape}
+use Rattle.shape.specs.declared.Shape.the-variants.{Sound, Refused}
+
+-- What holds answers, of the section that the property is about.
+abbrev pub holdsOf : List ℕ → Sizes → Property → ℕ → Bool
+holdsOf x z Flags s = otherBits z x s
+holdsOf x z Input s = isInput z x s
+holdsOf x z Rule r = badRule z x r
+holdsOf x z (Pair r) e = samePair x r e
+holdsOf x z (Layer l) r = inLayer x l r
+holdsOf x z (Weight l) s = tooLarge (z .states) x l s
+
+-- Where test 7 marks rule r: any two numbers below 64 that are the same for rules with the same before pair.
+abbrev pub rowOf : List ℕ → ℕ → ℕ
+rowOf rules r = ruleP rules r % 64
+
+abbrev pub columnOf : List ℕ → ℕ → ℕ
+columnOf rules r = ruleQ rules r % 64
+
+-- The layers below 64 that one of the first n rules is in.
+unfoldable pub usedBelow : List ℕ → ℕ → ℕ → Bool
+usedBelow rules n l = ltb l 64 && anyBelow n (inLayer rules l)
+
+-- What section_tests answers.
+unfoldable pub testedOf : Sizes → List ℕ → List ℕ → List ℕ → Tested
+testedOf z states rules layers =
+    judge (λ n k. Failed (refusal n k)) Passed (sectionTests z (sections states rules layers [] []))
+
+-- What section_tests finds, as a shape with header h.
+abbrev pub asShape : Header → Tested → Shape
+asShape h Passed = Sound h
+asShape h (Failed r) = Refused r
+
+-- The refusal of a refused shape; 0, 0 for a sound one.
+abbrev pub refusalOf : Shape → Refusal
+refusalOf (Sound h) = refusal 0 0
+refusalOf (Refused r) = r
+
+-- The sections have the lengths that their records need.
+pub record Lengths (b : List ℕ) (h : Header) : Type 0 where
+  pub states : length (sectionsOf b h .states) ≡ statesLength (h .sizes)
+  pub rules : length (sectionsOf b h .rules) ≡ rulesLength (h .sizes)
+  pub layers : length (sectionsOf b h .layers) ≡ layersLength (h .sizes)
+  pub nodes : length (sectionsOf b h .nodes) ≡ nodesLength (h .sizes)
+  pub leaves : length (sectionsOf b h .leaves) ≡ leavesLength (h .sizes)

@@ -1,0 +1,64 @@
+-- What is proved of which protocols. Statements only; Proved.antt proves them.
+use mathlib.Core.Path.{_≡_}
+use mathlib.Core.Bool.{true, false, cond}
+use mathlib.Core.List.{List}
+use mathlib.Core.Logic.{_↔_}
+use Prim.Native.Nat.{ℕ, _-_, _*_, _≤_, _<_}
+use lib.ListN.{length}
+use Rattle.theory.specs.Protocol.{Protocol, WellFormed, size, Start, startTest, after, meetings}
+use Rattle.theory.specs.Ladder.{Layers, OrderedPartition, handoverAt, handover, Broken, layered, Alone, Laddered, spread}
+use Rattle.theory.specs.Facts.{Facts}
+use Rattle.theory.specs.Leaf.{leafCloses, signed, LeafRule}
+use Rattle.theory.specs.Potential.{Potential}
+use Rattle.theory.specs.Machine.{isSized, admitted, reply}
+use Rattle.theory.specs.Potential.Runs.{parikh, parikh}
+use Rattle.theory.specs.Machine.Lists.{lastCounts, reported, lastCounts, reported}
+use Rattle.theory.specs.Claims.{Certified, AsPublished, LayeredBy, LayeredTermination, Consensus, StrongConsensus, Termination, WS², WS³}
+use Rattle.theory.specs.Claims.{Rests, OneOutput, AllRefused, CallsMake, CallsRest, Rank}
+
+module _ (P : Protocol) where
+  -- The handover test passes just where no configuration of any size breaks the handover, at each rule and as a whole.
+  pub record HandoverExact (L : Layers) : Type 0 where
+    pub at-rule : (s : ℕ) → s < P .rules → (handoverAt P L s ≡ true) ↔ (Broken P L s → ⊥)
+    -- Where it fails there is a configuration that breaks the handover.
+    pub broken : (s : ℕ) → s < P .rules → handoverAt P L s ≡ false → Broken P L s
+    pub whole : (handover P L ≡ true) ↔ ((s : ℕ) → s < P .rules → Broken P L s → ⊥)
+
+  -- The start test (refusal 22) passes just the starts.
+  abbrev pub StartExact : Type 0
+  StartExact = (c : List ℕ) → length c ≡ P .states → 2 ≤ size c → (startTest P c ≡ P .states) ↔ Start P c
+
+-- Of a ladder that passes, for configurations of any size.
+pub record OfLadder (P : Protocol) (L : Layers) (w : ℕ → ℕ → ℕ) : Type 0 where
+  -- Layered Termination, by the ladder's own layers; each of them alone makes at most size times its spread meetings.
+  pub layered-by : LayeredBy P L
+  pub layer-bound : (i : ℕ) (c rs : List ℕ) → length c ≡ P .states → Alone P L i c rs → meetings P c rs ≤ size c * spread (P .states) (w i)
+  pub rank-is : (c : List ℕ) → length c ≡ P .states → Rank P L w c
+  -- Demand 3, but for the verdict: of lists of rule numbers, and of lists of calls.
+  pub rests : (c : List ℕ) → length c ≡ P .states → Rests P L w c (after P c) (meetings P c) (layered P L c)
+  pub calls-rest : (c : List ℕ) → length c ≡ P .states → CallsRest P L w c (reply P L) (lastCounts P L c) (reported P L c)
+
+pub record Theorems (P : Protocol) : Type 0 where
+  -- The definitions are the paper's and document 01's; the leaf rule on biased weights is that on signed ones.
+  pub as-published : WellFormed P → (c : List ℕ) → length c ≡ P .states → AsPublished P c
+  pub leaf-is : (F : Facts) (w : ℕ → ℕ → ℕ) → (leafCloses P F w ≡ true) ↔ LeafRule P F (λ k s. signed (w k s))
+  pub start-exact : StartExact P
+  pub handover-exact : WellFormed P → (L : Layers) → HandoverExact P L
+  -- Calls make a list of rule numbers, or are all refused.
+  pub calls-make : {L : Layers} → WellFormed P → OrderedPartition P L → (c : List ℕ) → admitted P c ≡ true
+      → CallsMake P L c (reply P L) (lastCounts P L c) (reported P L c)
+  pub calls-refused : (L : Layers) (c : List ℕ) → admitted P c ≡ false → AllRefused c (reply P L) (lastCounts P L c) (reported P L c)
+      (cond (isSized P c) 21 20) 0
+  -- Consensus gives the verdict of demand 3, of lists of rule numbers and of lists of calls.
+  pub one-output : Consensus P → (c : List ℕ) → OneOutput P c (after P c)
+  pub calls-one-output : Consensus P → (L : Layers) (c : List ℕ) → OneOutput P c (lastCounts P L c)
+  -- What a list reaches is potentially reachable through the meetings of each rule (Observation 4.8), so Strong Consensus
+  -- is the stronger, and WS³ lies in WS².
+  pub potentially : WellFormed P → (c rs : List ℕ) → length c ≡ P .states → Potential P (parikh P c rs) c (after P c rs)
+  pub stronger : WellFormed P → StrongConsensus P → Consensus P
+  pub layered-terminates : LayeredTermination P → Termination P
+  pub ws³-in-ws² : WellFormed P → WS³ P → WS² P
+  -- What a ladder that passes proves, and what a certificate proves.
+  pub of-ladder : {L : Layers} {w : ℕ → ℕ → ℕ} → Laddered P L w → OfLadder P L w
+  pub ws³ : Certified P → WS³ P
+  pub ws² : Certified P → WS² P

@@ -1,0 +1,149 @@
+-- The leaf rule on biased weights is document 01's on signed ones. Assumes nothing.
+use mathlib.Core.Path.{_≡_, refl}
+use mathlib.Core.Bool.{Bool, true, false, not, cond, _&&_, _||_}
+use mathlib.Core.Logic.{_↔_}
+use Prim.Native.Nat.{ℕ, zero, suc, _+_, _-_, _*_, _≤_, _<_}
+use native.Mathlib.Omega.{arith}
+use lib.Dec.{ltb, leb→le, le→leb, ltb→lt, lt→ltb}
+use lib.IntN.{ℤ, pos, negsuc, subℕ, _+ℤ_}
+use lib.Signed.{ltZ, _≤ℤ_, _<ℤ_}
+use borrow.Author.Tests.{ltb-true, ltb-false, le-ltb}
+use Rattle.theory.specs.Bool.{bit}
+use Rattle.theory.specs.Bool.Laws.{by-test}
+use Rattle.theory.specs.Below.{sumBelow}
+use Rattle.theory.specs.Below.Laws.{sum-same, sum-add}
+use Rattle.theory.specs.Protocol.{Protocol}
+use Rattle.theory.specs.Facts.{Facts}
+use Rattle.theory.specs.Leaf.{total, spare, surplus, shortfall, leafCloses, signed, signedSum, upperSum, lowerSum, LeafRule}
+use Rattle.theory.specs.Leaf.Tests.{shortfalls, additions, AtMost, leaf-closes}
+
+-- ---- An integer is the difference of two numbers, one of which is 0
+
+abbrev plus : ℤ → ℕ
+plus (pos n) = n
+plus (negsuc n) = 0
+
+abbrev minus : ℤ → ℕ
+minus (pos n) = 0
+minus (negsuc n) = suc n
+
+sub-parts : (a b : ℕ) → (plus (subℕ a b) ≡ a - b) × (minus (subℕ a b) ≡ b - a)
+sub-parts a b = by-test (ltb a b) (λ e. rw e (omega (arith, ltb-true a b e))) (λ e. rw e (omega (arith, ltb-false a b e)))
+
+add-parts : (a b : ℤ) → plus (a +ℤ b) + (minus a + minus b) ≡ minus (a +ℤ b) + (plus a + plus b)
+add-parts (pos a) (pos b) = omega arith
+add-parts (pos a) (negsuc b) = omega (arith, sub-parts a (suc b))
+add-parts (negsuc a) (pos b) = omega (arith, sub-parts b (suc a))
+add-parts (negsuc a) (negsuc b) = omega arith
+
+le-parts : (a b : ℤ) → (a ≤ℤ b) ↔ (plus a + minus b ≤ plus b + minus a)
+le-parts (pos a) (pos b) = (λ h. omega (arith, leb→le a b (h .le)), λ h. record { le = le→leb a b (omega arith) })
+le-parts (pos a) (negsuc b) = (λ h. absurd (h .le), λ h. absurd (omega arith))
+le-parts (negsuc a) (pos b) = (λ h. omega arith, λ h. record { le = tt })
+le-parts (negsuc a) (negsuc b) = (λ h. omega (arith, leb→le b a (h .le)), λ h. record { le = le→leb b a (omega arith) })
+
+lt-parts : (a b : ℤ) → (a <ℤ b) ↔ (plus a + minus b < plus b + minus a)
+lt-parts (pos a) (pos b) = (λ h. omega (arith, ltb→lt a b (h .lt)), λ h. record { lt = lt→ltb a b (omega arith) })
+lt-parts (pos a) (negsuc b) = (λ h. absurd (h .lt), λ h. absurd (omega arith))
+lt-parts (negsuc a) (pos b) = (λ h. omega arith, λ h. record { lt = tt })
+lt-parts (negsuc a) (negsuc b) = (λ h. omega (arith, ltb→lt b a (h .lt)), λ h. record { lt = lt→ltb b a (omega arith) })
+
+sum-parts : (n : ℕ) (f : ℕ → ℤ) → plus (signedSum n f) + sumBelow n (λ s. minus (f s)) ≡ minus (signedSum n f) + sumBelow n (λ s. plus (f s))
+unfolding signedSum sumBelow
+sum-parts zero f = refl
+sum-parts (suc n) f = omega (arith, sum-parts n f, add-parts (signedSum n f) (f n))
+
+-- ---- Weights, signed and biased
+
+weight-parts : (w : ℕ) → (plus (signed w) ≡ w - 10000) × (minus (signed w) ≡ 10000 - w)
+weight-parts w = sub-parts w 10000
+
+pair-parts : (v w : ℕ) → plus (signed v +ℤ signed w) + 20000 ≡ minus (signed v +ℤ signed w) + (v + w)
+pair-parts v w = omega (arith, add-parts (signed v) (signed w), weight-parts v, weight-parts w)
+
+-- Pairs are compared as their biased weights are.
+pair-le : (a b c d : ℕ) → ((signed a +ℤ signed b) ≤ℤ (signed c +ℤ signed d)) ↔ (a + b ≤ c + d)
+pair-le a b c d =
+    let t = le-parts (signed a +ℤ signed b) (signed c +ℤ signed d) in
+    (λ h. omega (arith, t .0 h, pair-parts a b, pair-parts c d), λ h. t .1 (omega (arith, pair-parts a b, pair-parts c d)))
+
+pair-nonpos : (a b : ℕ) → ((signed a +ℤ signed b) ≤ℤ pos 0) ↔ (a + b ≤ 20000)
+pair-nonpos a b = pair-le a b 10000 10000
+
+negative : (w : ℕ) → (signed w <ℤ pos 0) ↔ (w < 10000)
+negative w =
+    let t = lt-parts (signed w) (pos 0) in
+    (λ h. omega (arith, t .0 h, weight-parts w), λ h. t .1 (omega (arith, weight-parts w)))
+
+-- ---- The terms of the two sums, at a state that is absent or not (a) and present or not (p)
+
+upper-term : (a p : Bool) (v w : ℕ) → (a ≡ false → v + w ≤ 20000)
+    → plus (cond (not a && p) (signed v +ℤ signed w) (pos 0)) + bit (not a && p) * (20000 - (v + w)) ≡ minus (cond (not a && p) (signed v +ℤ signed w) (pos 0))
+upper-term true p v w h = omega arith
+upper-term false true v w h = omega (arith, pair-parts v w, h refl)
+upper-term false false v w h = omega arith
+
+lower-term : (a p : Bool) (w : ℕ)
+    → let y =
+    cond (not a && (p || ltZ (signed w) (pos 0))) (signed w) (pos 0) in (plus y ≡ bit (not a && p) * (w - 10000)) × (minus y ≡ bit (not a) * (10000 - w))
+lower-term true p w = omega arith
+lower-term false true w = omega (arith, weight-parts w)
+lower-term false false w =
+    by-test (ltb w 10000)
+    (λ e. rw e (omega (arith, ltb-true w 10000 e)))
+    (λ e. rw (e, le-ltb (w - 10000) 0 (omega arith)) (omega (arith, ltb-false w 10000 e)))
+
+module _ (P : Protocol) (F : Facts) (w : ℕ → ℕ → ℕ) where
+  abbrev y : ℕ → ℕ → ℤ
+  y k s = signed (w k s)
+
+  -- The upper sum is - spares.
+  upper-is : AtMost P F 20000 (λ s. w 1 s + w 2 s) → plus (upperSum P F y) + total P (spare P F 20000 (λ s. w 1 s + w 2 s)) ≡ minus (upperSum P F y)
+  unfolding upperSum spare
+  upper-is fits =
+      let f : ℕ → ℤ = λ s. cond (not (F .absent 0 s) && F .present 0 s) (y 1 s +ℤ y 2 s) (pos 0) in
+      let spares : ℕ → ℕ = spare P F 20000 (λ s. w 1 s + w 2 s) in
+      omega (
+        arith,
+        sum-parts (P .states) f,
+        sum-add (P .states) (λ s. plus (f s)) spares,
+        sum-same (P .states) (λ s. plus (f s) + spares s) (λ s. minus (f s)) (λ s l. upper-term (F .absent 0 s) (F .present 0 s) (w 1 s) (w 2 s) (fits s l)),
+      )
+
+  -- The lower sum of an end is surpluses - shortfalls.
+  lower-is : (k : ℕ) → plus (lowerSum P F y k) + total P (shortfall P F k 10000 (w k)) ≡ minus (lowerSum P F y k) + total P (surplus P F k 10000 (w k))
+  unfolding lowerSum surplus shortfall
+  lower-is k =
+      let f : ℕ → ℤ = λ s. cond (not (F .absent k s) && (F .present k s || ltZ (y k s) (pos 0))) (y k s) (pos 0) in
+      omega (
+        arith,
+        sum-parts (P .states) f,
+        sum-same (P .states) (λ s. plus (f s)) (surplus P F k 10000 (w k)) (λ s _. lower-term (F .absent k s) (F .present k s) (w k s) .0),
+        sum-same (P .states) (λ s. minus (f s)) (shortfall P F k 10000 (w k)) (λ s _. lower-term (F .absent k s) (F .present k s) (w k s) .1),
+      )
+
+  sums-is : AtMost P F 20000 (λ s. w 1 s + w 2 s) → (upperSum P F y <ℤ (lowerSum P F y 1 +ℤ lowerSum P F y 2)) ↔ (shortfalls P F w < additions P F w)
+  sums-is low =
+      let t = lt-parts (upperSum P F y) (lowerSum P F y 1 +ℤ lowerSum P F y 2) in
+      let both = add-parts (lowerSum P F y 1) (lowerSum P F y 2) in
+      (λ h. omega (arith, t .0 h, upper-is low, lower-is 1, lower-is 2, both), λ h. t .1 (omega (arith, upper-is low, lower-is 1, lower-is 2, both)))
+
+  pub leaf-is : (leafCloses P F w ≡ true) ↔ LeafRule P F y
+  leaf-is = (
+    λ e.
+        let t = leaf-closes P F w .0 e in
+        record {
+          rules = λ k i j r l u. pair-le (w k (P .p′ r)) (w k (P .q′ r)) (w k (P .p r)) (w k (P .q r)) .1 (t .rules k i j r l u);
+          start = λ s l a. pair-nonpos (w 1 s) (w 2 s) .1 (t .start s l a);
+          ends = λ k i j s l a n. t .ends k i j s l a (negative (w k s) .0 n);
+          sums = sums-is (t .start) .1 (t .sums);
+        },
+    λ t.
+        let low : AtMost P F 20000 (λ s. w 1 s + w 2 s) = λ s l a. pair-nonpos (w 1 s) (w 2 s) .0 (t .start s l a) in
+        leaf-closes P F w .1 (record {
+          rules = λ k i j r l u. pair-le (w k (P .p′ r)) (w k (P .q′ r)) (w k (P .p r)) (w k (P .q r)) .0 (t .rules k i j r l u);
+          start = low;
+          ends = λ k i j s l a n. t .ends k i j s l a (negative (w k s) .1 n);
+          sums = sums-is low .0 (t .sums);
+        }),
+  )

@@ -1,0 +1,89 @@
+-- The leaf rule, test by test. Assumes nothing.
+use mathlib.Core.Path.{_≡_}
+use mathlib.Core.Bool.{true, false, _||_}
+use mathlib.Core.Logic.{_↔_}
+use Prim.Native.Nat.{ℕ, zero, suc, _+_, _≤_, _<_}
+use native.Mathlib.Omega.{arith}
+use lib.Dec.{leb, ltb}
+use borrow.Author.Tests.{ltb-true, lt-ltb, leb-true, leb-false, le-leb, lt-leb}
+use Rattle.theory.specs.Bool.Laws.{by-test, and-intro, and-elim, or-left, or-right, or-resolve}
+use Rattle.theory.specs.Below.Laws.{all-unless}
+use Rattle.theory.specs.Protocol.{Protocol}
+use Rattle.theory.specs.Facts.{Facts}
+use Rattle.theory.specs.Leaf.{total, nonIncreasing, startFits, spare, endFits, surplus, shortfall, leafCloses}
+
+-- What holds at 1 and at 2 holds at each end.
+at-ends : (Q : ℕ → Type 0) → Q 1 → Q 2 → (k : ℕ) → 1 ≤ k → k ≤ 2 → Q k
+at-ends Q x y zero l m = absurd (omega arith)
+at-ends Q x y (suc zero) l m = x
+at-ends Q x y (suc (suc zero)) l m = y
+at-ends Q x y (suc (suc (suc k))) l m = absurd (omega arith)
+
+module _ (P : Protocol) (F : Facts) where
+  abbrev pub shortfalls : (ℕ → ℕ → ℕ) → ℕ
+  shortfalls w = total P (shortfall P F 1 10000 (w 1)) + total P (shortfall P F 2 10000 (w 2))
+
+  abbrev pub additions : (ℕ → ℕ → ℕ) → ℕ
+  additions w = total P (surplus P F 1 10000 (w 1)) + total P (surplus P F 2 10000 (w 2)) + total P (spare P F 20000 (λ s. w 1 s + w 2 s))
+
+  -- No rule that is not unused raises v in run k.
+  abbrev pub Falls : ℕ → (ℕ → ℕ) → Type 0
+  Falls k v = (r : ℕ) → r < P .rules → F .unused k r ≡ false → v (P .p′ r) + v (P .q′ r) ≤ v (P .p r) + v (P .q r)
+
+  -- v is at most b where a state is not absent at the start.
+  abbrev pub AtMost : ℕ → (ℕ → ℕ) → Type 0
+  AtMost b v = (s : ℕ) → s < P .states → F .absent 0 s ≡ false → v s ≤ b
+
+  -- A state that is not absent at end k and has less than b holds at most one agent there.
+  abbrev pub FewBelow : ℕ → ℕ → (ℕ → ℕ) → Type 0
+  FewBelow b k v = (s : ℕ) → s < P .states → F .absent k s ≡ false → v s < b → F .atMostOne k s ≡ true
+
+  -- The leaf rule, test by test.
+  pub record Closes (w : ℕ → ℕ → ℕ) : Type 0 where
+    pub rules : (k : ℕ) → 1 ≤ k → k ≤ 2 → Falls k (w k)
+    pub start : AtMost 20000 (λ s. w 1 s + w 2 s)
+    pub ends : (k : ℕ) → 1 ≤ k → k ≤ 2 → FewBelow 10000 k (w k)
+    pub sums : shortfalls w < additions w
+
+  falls : (k : ℕ) (v : ℕ → ℕ) → (nonIncreasing P (F .unused k) v ≡ true) ↔ Falls k v
+  unfolding nonIncreasing
+  falls k v =
+      let t = all-unless (P .rules) (F .unused k) (λ r. leb (v (P .p′ r) + v (P .q′ r)) (v (P .p r) + v (P .q r))) in
+      (λ e r l u. leb-true _ _ (t .0 e r l u), λ h. t .1 (λ r l u. le-leb _ _ (h r l u)))
+
+  at-most : (b : ℕ) (v : ℕ → ℕ) → (startFits P F b v ≡ true) ↔ AtMost b v
+  unfolding startFits
+  at-most b v =
+      let t = all-unless (P .states) (F .absent 0) (λ s. leb (v s) b) in (λ e s l a. leb-true _ _ (t .0 e s l a), λ h. t .1 (λ s l a. le-leb _ _ (h s l a)))
+
+  few-below : (b k : ℕ) (v : ℕ → ℕ) → (endFits P F k b v ≡ true) ↔ FewBelow b k v
+  unfolding endFits
+  few-below b k v =
+      let t = all-unless (P .states) (F .absent k) (λ s. leb b (v s) || F .atMostOne k s) in (
+        λ e s l a n. or-resolve _ _ (lt-leb b (v s) n) (t .0 e s l a),
+        λ h. t .1 (λ s l a. by-test (leb b (v s)) (or-left _ _) (λ e. or-right (leb b (v s)) (F .atMostOne k s) (h s l a (leb-false _ _ e)))),
+      )
+
+  pub leaf-closes : (w : ℕ → ℕ → ℕ) → (leafCloses P F w ≡ true) ↔ Closes w
+  unfolding leafCloses
+  leaf-closes w = (
+    λ e.
+        let sums = and-elim _ (ltb (shortfalls w) (additions w)) e in
+        let end2 = and-elim _ (endFits P F 2 10000 (w 2)) (sums .0) in
+        let end1 = and-elim _ (endFits P F 1 10000 (w 1)) (end2 .0) in
+        let start = and-elim _ (startFits P F 20000 (λ s. w 1 s + w 2 s)) (end1 .0) in
+        let runs = and-elim (nonIncreasing P (F .unused 1) (w 1)) (nonIncreasing P (F .unused 2) (w 2)) (start .0) in
+        record {
+          rules = at-ends (λ k. Falls k (w k)) (falls 1 (w 1) .0 (runs .0)) (falls 2 (w 2) .0 (runs .1));
+          start = at-most 20000 (λ s. w 1 s + w 2 s) .0 (start .1);
+          ends = at-ends (λ k. FewBelow 10000 k (w k)) (few-below 10000 1 (w 1) .0 (end1 .1)) (few-below 10000 2 (w 2) .0 (end2 .1));
+          sums = ltb-true (shortfalls w) (additions w) (sums .1);
+        },
+    λ t.
+        let run1 = falls 1 (w 1) .1 (t .rules 1 (omega arith) (omega arith)) in
+        let run2 = falls 2 (w 2) .1 (t .rules 2 (omega arith) (omega arith)) in
+        let start = at-most 20000 (λ s. w 1 s + w 2 s) .1 (t .start) in
+        let end1 = few-below 10000 1 (w 1) .1 (t .ends 1 (omega arith) (omega arith)) in
+        let end2 = few-below 10000 2 (w 2) .1 (t .ends 2 (omega arith) (omega arith)) in
+        and-intro _ _ (and-intro _ _ (and-intro _ _ (and-intro _ _ (and-intro _ _ run1 run2) start) end1) end2) (lt-ltb (shortfalls w) (additions w) (t .sums)),
+  )

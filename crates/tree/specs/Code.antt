@@ -1,0 +1,38 @@
+-- What the functions on a tree answer, beside theory's walk: what the enum Walk stands for, the aim of a docket's tree,
+-- the size of a node's set.
+use mathlib.Core.Path.{_≡_}
+use mathlib.Core.Bool.{true, false, cond, _||_}
+use mathlib.Core.List.{List}
+use Prim.Native.Nat.{ℕ}
+use lib.Dec.{eqb}
+use Rattle.theory.specs.Tree.{Walked, next, refused, setSize}
+use Rattle.format.specs.Format.{nodeKind, nodeSet}
+use Rattle.format.specs.declared.Sizes.{Sizes}
+use Rattle.shape.specs.Shape.{refusal}
+use Rattle.shape.specs.declared.Refusal.{Refusal}
+use Rattle.node.specs.Code.{AimFits}
+use Rattle.node.specs.declared.Aim.{Aim}
+use Rattle.tree.specs.declared.Walk.{Walk}
+use Rattle.tree.specs.declared.Walk.the-variants.{Next, Refused}
+pub mod Laws
+
+-- What the enum Walk stands for.
+abbrev pub walkedOf : Walk → Walked
+walkedOf (Next j) = next j
+walkedOf (Refused r) = refused (r .number) (r .place)
+
+-- The refusal of a refused walk; 0, 0 for another.
+abbrev pub refusalOf : Walk → Refusal
+refusalOf (Next j) = refusal 0 0
+refusalOf (Refused r) = r
+
+-- The aim of a docket's tree: run 1 ends with a state of output 0, and run 2 with one of output 1.
+pub record Disagrees (z : Sizes) (states : List ℕ) (a : Aim) : Type 0 where
+  pub fits : AimFits z states a
+  pub runs : a .runs ≡ 2
+  pub first : a .first ≡ false
+  pub second : a .second ≡ true
+
+-- How many states the set of node i names; 0 where its kind names none.
+unfoldable pub setSizeAt : List ℕ → ℕ → ℕ
+setSizeAt nodes i = cond (eqb (nodeKind nodes i) 5 || eqb (nodeKind nodes i) 6) (setSize (nodeSet nodes i)) 0

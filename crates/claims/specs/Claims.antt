@@ -3,66 +3,92 @@
 -- The protocol of a docket with header h is protocolIn b h, its layers are layersIn b h, their weights weightIn b h. What is
 -- said of lists of rule numbers and of calls is stated in theory's Claims, over what the machine says of the bytes here.
 use mathlib.Core.Path.{_≡_}
-use mathlib.Core.Bool.{Bool, true, false, cond, _||_}
+use mathlib.Core.Bool.{Bool, true, false, cond}
 use mathlib.Core.List.{List, [], _∷_, _++_}
 use mathlib.Core.Logic.{_↔_, _⊎_}
 use Prim.Native.Nat.{ℕ, _+_, _≤_, _<_}
 use lib.ListN.{length}
-use lib.Dec.{eqb}
 use Rattle.theory.specs.Judge.{Test, Passes, FirstFits}
-use Rattle.theory.specs.Protocol.{Protocol, Start, after, meetings}
+use Rattle.theory.specs.Protocol.{Protocol, count, enabled, terminal, Shows, Start, fires, after, meetings}
 use Rattle.theory.specs.Ladder.{Layers, handover, Broken, layered, Laddered}
 use Rattle.theory.specs.Facts.{Facts}
 use Rattle.theory.specs.Leaf.{leafCloses, signed, LeafRule}
-use Rattle.theory.specs.Tree.{next}
-use Rattle.theory.specs.Tree as walk
-use Rattle.theory.specs.Machine.{Call, step, run, refused, meetingsOf, isSized, admitted}
-use Rattle.theory.specs.Claims.{Certified, AsPublished, LayeredBy, WS², WS³, Rests, OneOutput, AllRefused, CallsMake, CallsRest, Rank}
-use Rattle.format.specs.Format.{headerOf, sectionsOf, protocolIn, layersIn, weightIn, endWeight, weightsOf}
+use Rattle.theory.specs.Tree.{Tree, Assumption, disagreement}
+use Rattle.theory.specs.Subtree.{TreeStands, TreeFails}
+use Rattle.theory.specs.Machine.{Call, step, run, Reply, stepped, ran, refused, meetingsOf, isSized, isWithin, admitted}
+use Rattle.theory.specs.Claims.{Certified, AsPublished, LayersAre, LayeredBy, WS², WS³, Rests, OneOutput, AllRefused, CallsMake, CallsRest, Rank}
+use Rattle.format.specs.Format.{headerOf, sectionsOf, protocolIn, layersIn, weightIn, endWeight, treeOf, weightsOf}
 use Rattle.format.specs.declared.Header.{Header}
 use Rattle.shape.specs.Shape.{refusal, shapeTests, shapeOf}
 use Rattle.shape.specs.Sound.{SoundShape}
+use Rattle.shape.specs.declared.Refusal.{Refusal}
 use Rattle.shape.specs.declared.Shape.the-variants as shape
-use Rattle.checker.specs.Check.{certificateTests, walkOf, summaryOf, checkOf}
+use Rattle.checker.specs.Check.{certificateTests, summaryOf, checkOf}
 use Rattle.checker.specs.declared.Summary.{Summary}
 use Rattle.checker.specs.declared.Checked.the-variants.{Accepted, Refused}
 use Rattle.machine.specs.Calls.{startOf, enabledOf, terminalOf, verdictOf, replyOf, countsOf}
 use Rattle.machine.specs.declared.Started.the-variants as started
 use Rattle.machine.specs.declared.YesNo.the-variants as answer
 use Rattle.machine.specs.declared.Verdict.the-variants as shown
-pub mod Exact
+use Rattle.codes.specs.Codes.{code, callCode, checkCode, startCode, yesNoCode, verdictCode, replyCode}
 pub mod Numbers
+pub mod Says
+pub mod Codes
+pub mod Exact
 pub mod Handover
 pub mod Lists
-pub mod Starts
 pub mod Refusals
 pub mod Proved
 
--- ---- Demand 1: which refusals a call can give, and that a refused call changes nothing. The contracts of the code say that
--- each call answers by the definition named here.
+-- ---- Demand 1: what every call says, for every file, counts and number. The contracts of the code say that each call answers
+-- by the definition named here: startOf, enabledOf, terminalOf, verdictOf, replyOf, countsOf, checkOf.
 
-unfoldable pub isOneOf : ℕ → List ℕ → Bool
-isOneOf n [] = false
-isOneOf n (m ∷ ms) = eqb n m || isOneOf n ms
+module _ (b c : List ℕ) where
+  -- How every machine call answers, a being the answer and refuse its refusals: a refusal of tests 1 to 8 is passed back; then
+  -- counts are refused by 20, and by 21, in this order; then the call says what is its own.
+  pub record CallSays {A : Type 0} (a : A) (refuse : Refusal → A) (Own : Protocol → Type 0) : Type 0 where
+    pub passed-back : (r : Refusal) → shapeOf b ≡ shape.Refused r → a ≡ refuse r
+    pub not-sized : (h : Header) → SoundShape b h → isSized (protocolIn b h) c ≡ false → a ≡ refuse (refusal 20 0)
+    pub not-within : (h : Header) → SoundShape b h → isSized (protocolIn b h) c ≡ true → isWithin c ≡ false → a ≡ refuse (refusal 21 0)
+    pub own : (h : Header) → SoundShape b h → admitted (protocolIn b h) c ≡ true → Own (protocolIn b h)
 
--- The refusals of tests 1 to 8, which every call makes first.
-abbrev pub shapeNumbers : List ℕ
-shapeNumbers = 1 ∷ 2 ∷ 3 ∷ 4 ∷ 5 ∷ 6 ∷ 7 ∷ 8 ∷ []
+  -- State s is the lowest that is no input and holds a worker.
+  pub record Unfit (P : Protocol) (s : ℕ) : Type 0 where
+    pub state : s < P .states
+    pub no-input : P .input s ≡ false
+    pub held : 0 < count c s
+    pub lowest-state : (t : ℕ) → t < s → P .input t ≡ false → count c t ≡ 0
 
--- The refusals that every machine call has: those of tests 1 to 8, and of its tests of the counts.
-abbrev pub callNumbers : List ℕ
-callNumbers = shapeNumbers ++ 20 ∷ 21 ∷ []
+  -- Step and run pass back a refusal as theirs.
+  abbrev pub passBack : Refusal → Reply
+  passBack r = refused (r .number) (r .place)
 
-pub record Demand1 (b c : List ℕ) : Type 0 where
-  pub check : (n k : ℕ) → checkOf b ≡ Refused (refusal n k) → isOneOf n (shapeNumbers ++ 9 ∷ 10 ∷ 11 ∷ 12 ∷ 13 ∷ []) ≡ true
-  pub start : (n k : ℕ) → startOf b c ≡ started.Refused (refusal n k) → isOneOf n (callNumbers ++ 22 ∷ []) ≡ true
-  pub can-act : (r n k : ℕ) → enabledOf b c r ≡ answer.Refused (refusal n k) → isOneOf n (callNumbers ++ 23 ∷ []) ≡ true
-  pub standstill : (n k : ℕ) → terminalOf b c ≡ answer.Refused (refusal n k) → isOneOf n callNumbers ≡ true
-  pub verdict : (n k : ℕ) → verdictOf b c ≡ shown.Refused (refusal n k) → isOneOf n callNumbers ≡ true
-  pub of-step : (r n k : ℕ) → replyOf b c (step r) ≡ refused n k → isOneOf n (callNumbers ++ 23 ∷ 24 ∷ []) ≡ true
-  pub of-run : (limit n k : ℕ) → replyOf b c (run limit) ≡ refused n k → isOneOf n callNumbers ≡ true
-  -- A refused step or run leaves the counts as they are; the other calls have no counts to leave.
-  pub unchanged : (x : Call) (n k : ℕ) → replyOf b c x ≡ refused n k → countsOf b c x ≡ c
+  pub record Demand1 : Type 0 where
+    -- A refusal of tests 1 to 8 is the first of them that fits.
+    pub shape-refusal-is : (n k : ℕ) → (shapeOf b ≡ shape.Refused (refusal n k)) ↔ FirstFits (shapeTests b (headerOf b)) n k
+    -- The start test: a start, or 22 at the lowest unfit state.
+    pub start : CallSays (startOf b c) started.Refused (λ P.
+        ((startOf b c ≡ started.Start) ↔ Start P c)
+        × ((s : ℕ) → (startOf b c ≡ started.Refused (refusal 22 s)) ↔ Unfit P s))
+    -- Can rule r act: as defined, or 23 at the number given.
+    pub can-act : (r : ℕ) → CallSays (enabledOf b c r) answer.Refused (λ P.
+        (r < P .rules → enabledOf b c r ≡ answer.Is (enabled P c r))
+        × (P .rules ≤ r → enabledOf b c r ≡ answer.Refused (refusal 23 r)))
+    pub standstill : CallSays (terminalOf b c) answer.Refused (λ P. terminalOf b c ≡ answer.Is (terminal P c))
+    -- The verdict v just where all occupied states have it, else mixed.
+    pub verdict : CallSays (verdictOf b c) shown.Refused (λ P.
+        ((v : Bool) → (verdictOf b c ≡ shown.Agreed v) ↔ Shows P v c)
+        × ((verdictOf b c ≡ shown.Mixed) ↔ ((v : Bool) → Shows P v c → ⊥)))
+    -- A step: its meeting, 23 where its number names no rule, 24 where the rule cannot act.
+    pub of-step : (r : ℕ) → CallSays (replyOf b c (step r)) passBack (λ P.
+        (fires P c r ≡ true → replyOf b c (step r) ≡ stepped)
+        × (P .rules ≤ r → replyOf b c (step r) ≡ refused 23 r)
+        × (r < P .rules → enabled P c r ≡ false → replyOf b c (step r) ≡ refused 24 r))
+    -- A run is not refused any more; demand 3 says what its numbers are.
+    pub of-run : (limit : ℕ) → CallSays (replyOf b c (run limit)) passBack (λ P.
+        (n : ℕ) × (rests : Bool) × (replyOf b c (run limit) ≡ ran n rests))
+    -- A refused step or run leaves the counts as they are; the other calls have no counts to leave.
+    pub unchanged : (x : Call) (n k : ℕ) → replyOf b c x ≡ refused n k → countsOf b c x ≡ c
 
 -- ---- Demand 2: the check accepts a docket just where it keeps every rule
 
@@ -73,6 +99,13 @@ module _ (b : List ℕ) (h : Header) where
       let P = protocolIn b h in
       let w = weightIn b h (layersIn b h .of r) in
       w (P .p′ r) + w (P .q′ r) < w (P .p r) + w (P .q r)
+
+  -- The tree, and what it refutes: that two runs from one start end with different outputs.
+  abbrev pub treeIn : Tree
+  treeIn = treeOf (h .sizes) (sectionsOf b h .nodes)
+
+  abbrev pub assumed : Assumption
+  assumed = disagreement (protocolIn b h) (weightsOf (h .sizes) (sectionsOf b h .leaves))
 
   -- The bytes b, with header h, keep every rule of document 01.
   pub record Rules : Type 0 where
@@ -86,8 +119,8 @@ module _ (b : List ℕ) (h : Header) where
     -- 10,000.
     pub leaf-weights : (l e s : ℕ) → l < h .sizes .leaves → e < 2 → s < h .sizes .states
         → endWeight (h .sizes) (sectionsOf b h .leaves) l e s ≤ 20000
-    -- Tests 12 and 13: the walk goes through the tree and ends behind its last node.
-    pub tree : walkOf (h .sizes) (sectionsOf b h) ≡ next (h .sizes .nodes)
+    -- Tests 12 and 13: the root's subtree, on fresh facts, ends behind the last node.
+    pub tree : TreeStands (protocolIn b h) assumed treeIn
 
   -- Tests 1 to 11, in order: each has a number, places, and says which of its places are bad.
   abbrev pub testsIn : List Test
@@ -107,7 +140,7 @@ pub record Demand2 (b : List ℕ) : Type 0 where
   -- gives it.
   pub refusal-is : (n k : ℕ) → let h = headerOf b in
       (checkOf b ≡ Refused (refusal n k))
-      ↔ (FirstFits (testsIn b h) n k ⊎ (Passes (testsIn b h) × (walkOf (h .sizes) (sectionsOf b h) ≡ walk.refused n k)))
+      ↔ (FirstFits (testsIn b h) n k ⊎ (Passes (testsIn b h) × TreeFails (protocolIn b h) (assumed b h) (treeIn b h) n k))
   -- The handover test is exact: it passes just where no group breaks the handover.
   pub handover-exact : (h : Header) → SoundShape b h → let P = protocolIn b h in let L = layersIn b h in
       (handover P L ≡ true) ↔ ((s : ℕ) → s < h .sizes .rules → Broken P L s → ⊥)
@@ -156,10 +189,28 @@ module _ (b : List ℕ) (h : Header) (c : List ℕ) where
     pub calls-rest : length c ≡ h .sizes .states → CallsRest P L w c (replyOf b) (lastOn b c) (reportedOn b c)
     -- The rank is 0 just at a standstill, and never exceeds the rest bound.
     pub rank-is : length c ≡ h .sizes .states → Rank P L w c
-    -- From a start, all lists that end at a standstill have one verdict.
+    -- From every group some layered list ends at a standstill.
+    pub some-list : length c ≡ h .sizes .states → (rs : List ℕ) × (layered P L c rs ≡ true) × (terminal P (after P c rs) ≡ true)
+    -- From a start, all lists that end at a standstill have one verdict, and after calls the verdict call says it.
     pub one-output : OneOutput P c (after P c)
     pub calls-one-output : OneOutput P c (lastOn b c)
+    pub calls-verdict : Start P c → admitted P c ≡ true
+        → (v : Bool) × ((xs : List Call) → terminal P (lastOn b c xs) ≡ true → verdictOf b (lastOn b c xs) ≡ shown.Agreed v)
     pub of-calls : CallsOn
+
+-- ---- What C sees: 0 for accepted or not refused; else a number that tells the refusal's number and place
+
+pub record CodesTell (b c : List ℕ) : Type 0 where
+  pub check : (checkCode (checkOf b) ≡ 0) ↔ IsAccepted b
+  pub start : (startCode (startOf b c) ≡ 0) ↔ (startOf b c ≡ started.Start)
+  pub can-act : (r : ℕ) → (yesNoCode (enabledOf b c r) ≡ 0) ↔ ((t : Bool) × (enabledOf b c r ≡ answer.Is t))
+  pub standstill : (yesNoCode (terminalOf b c) ≡ 0) ↔ ((t : Bool) × (terminalOf b c ≡ answer.Is t))
+  pub verdict : (verdictCode (verdictOf b c) ≡ 0) ↔ ((r : Refusal) → verdictOf b c ≡ shown.Refused r → ⊥)
+  pub of-call : (x : Call) → (replyCode (replyOf b c x) ≡ 0) ↔ ((n k : ℕ) → replyOf b c x ≡ refused n k → ⊥)
+  -- The place of a refusal of the check is below 65,536, so the code tells number and place.
+  pub check-place : (n k : ℕ) → checkOf b ≡ Refused (refusal n k) → k < 65536
+  pub check-tells : (n k m j : ℕ) → k < 65536 → j < 65536 → code (refusal n k) ≡ code (refusal m j) → (n ≡ m) × (k ≡ j)
+  pub call-tells : (n k m j : ℕ) → k < 4294967296 → j < 4294967296 → callCode (refusal n k) ≡ callCode (refusal m j) → (n ≡ m) × (k ≡ j)
 
 -- ---- What is proved of every docket
 
@@ -167,6 +218,7 @@ pub record Claims (b : List ℕ) : Type 0 where
   pub demand-1 : (c : List ℕ) → Demand1 b c
   pub demand-2 : Demand2 b
   pub demand-3 : IsAccepted b → (c : List ℕ) → Demand3 b (headerOf b) c
+  pub codes-tell : (c : List ℕ) → CodesTell b c
   -- Calls on a docket that is not accepted: where it passes tests 1 to 8 they make lists all the same; where it does not, all
   -- are refused with the number and place of the check.
   pub calls-on-sound : (h : Header) → SoundShape b h → (c : List ℕ) → CallsOn b h c
@@ -180,9 +232,8 @@ pub record Claims (b : List ℕ) : Type 0 where
   -- On a docket that passes tests 1 to 8, can act, acting, standstill, verdict, trap and siphon are what document 01 and the
   -- paper call so.
   pub definitions : (h : Header) → SoundShape b h → (c : List ℕ) → length c ≡ h .sizes .states → AsPublished (protocolIn b h) c
+  -- So are active, quiet, lowest, layered and spread.
+  pub layer-words : (h : Header) → SoundShape b h → (c : List ℕ) → LayersAre (protocolIn b h) (layersIn b h) (weightIn b h) c
   -- The leaf rule of kind 0 is document 01's, in the signed weights of leaf l.
   pub leaf-rule : (h : Header) (F : Facts) (l : ℕ) → let w = weightsOf (h .sizes) (sectionsOf b h .leaves) l in
       (leafCloses (protocolIn b h) F w ≡ true) ↔ LeafRule (protocolIn b h) F (λ k s. signed (w k s))
-  -- On counts that pass 20 and 21 the start test answers yes just to the starts.
-  pub start-exact : (h : Header) → SoundShape b h → (c : List ℕ) → admitted (protocolIn b h) c ≡ true
-      → (startOf b c ≡ started.Start) ↔ Start (protocolIn b h) c

@@ -9,12 +9,13 @@ use lib.ListN.{length}
 use lib.Dec.{eqb}
 use Rattle.theory.specs.Bool.{imp}
 use Rattle.theory.specs.Protocol.{Protocol, agreed, mixed, count, size, pre, post, enabled, fire, terminal, Shows, shows, verdict, Start, fires}
-use Rattle.theory.specs.Protocol.{after, meetings}
-use Rattle.theory.specs.Ladder.{Layers, OrderedPartition, QuietBelow, lowest, layered, Alone, Laddered, spreads, rank}
+use Rattle.theory.specs.Protocol.{after, meetings, EachTried, EachMeeting}
+use Rattle.theory.specs.Ladder.{Layers, OrderedPartition, active, QuietBelow, lowest, layered, Alone, Laddered, spread, spreads, rank}
 use Rattle.theory.specs.Tree.{Tree, next, takes, puts, isTrap, isSiphon, disagreement, treeAnswer}
 use Rattle.theory.specs.Potential.{Potential}
-use Rattle.theory.specs.Machine.{Call, step, run, Reply, stepped, ran, refused, isRefused, admitted, runNumbers, numbersOf}
+use Rattle.theory.specs.Machine.{Call, step, run, Reply, stepped, ran, refused, isRefused, admitted, Uses, runNumbers, numbersOf}
 pub mod Theorems
+pub mod LayerWords
 pub mod Layered
 pub mod Proved
 
@@ -56,6 +57,20 @@ module _ (P : Protocol) where
     -- takes.
     pub trap-is : (unused A : ℕ → Bool) → (isTrap P unused A ≡ true) ↔ ((r : ℕ) → r < P .rules → unused r ≡ false → takes P A r ≡ true → puts P A r ≡ true)
     pub siphon-is : (unused A : ℕ → Bool) → (isSiphon P unused A ≡ true) ↔ ((r : ℕ) → r < P .rules → unused r ≡ false → puts P A r ≡ true → takes P A r ≡ true)
+
+  -- The words about layers are document 01's, at a configuration c; w k s is layer k's weight of state s.
+  pub record LayersAre (L : Layers) (w : ℕ → ℕ → ℕ) (c : List ℕ) : Type 0 where
+    -- A layer is active if one of its rules is enabled, and quiet if none is.
+    pub active-is : (k : ℕ) → (active P L c k ≡ true) ↔ ((r : ℕ) × (r < P .rules) × (L .of r ≡ k) × (enabled P c r ≡ true))
+    pub quiet-is : (k : ℕ) → (active P L c k ≡ false) ↔ ((r : ℕ) → r < P .rules → L .of r ≡ k → enabled P c r ≡ false)
+    -- The lowest layer is active, and none below it is; there is none just where c is terminal.
+    pub lowest-is : (k : ℕ) → k < L .count → (lowest P L c ≡ k) ↔ ((active P L c k ≡ true) × QuietBelow P L k c)
+    pub no-lowest : (lowest P L c ≡ L .count) ↔ (terminal P c ≡ true)
+    -- A list is layered if just before each of its meetings every layer below that of its rule is quiet.
+    pub layered-is : (rs : List ℕ) → (layered P L c rs ≡ true) ↔ EachMeeting P (λ d r. QuietBelow P L (L .of r) d) c rs
+    -- A layer's spread is the difference of two of its weights, the greatest and the least.
+    pub spread-is : (k : ℕ) → (s : ℕ) × (t : ℕ) × (s < P .states) × (t < P .states)
+        × (spread (P .states) (w k) ≡ w k s - w k t) × ((u : ℕ) → u < P .states → (w k t ≤ w k u) × (w k u ≤ w k s))
 
   -- The layers L are an ordered partition of the rules with (a) and (b) of Definition 4.1.
   pub record LayeredBy (L : Layers) : Type 0 where
@@ -140,6 +155,8 @@ module _ (P : Protocol) (L : Layers) (c : List ℕ) (say : List ℕ → Call →
     pub steps : ℕ
     pub rests : Bool
     pub says : say (last xs) (run limit) ≡ ran steps rests
+    -- Each number that it uses is the lowest rule number of the lowest layer that has an enabled rule just before it.
+    pub uses : EachTried P (Uses P L) (last xs) (runNumbers P L limit (last xs))
     -- The run's steps are its meetings, and it says rest just when it leaves a terminal configuration.
     pub are-meetings : meetings P c (made (xs ++ run limit ∷ [])) ≡ meetings P c (made xs) + steps
     pub at-rest : rests ≡ terminal P (last (xs ++ run limit ∷ []))

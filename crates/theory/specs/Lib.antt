@@ -9,6 +9,7 @@ pub mod Ladder
 pub mod Facts
 pub mod Leaf
 pub mod Tree
+pub mod Subtree
 pub mod Potential
 pub mod Machine
 pub mod Claims

@@ -1,13 +1,14 @@
 -- The machine's step and run calls on the counts of one configuration, and lists of them (document 01, "What a call says"
 -- and "Demand 3 over lists").
+use mathlib.Core.Path.{_≡_}
 use mathlib.Core.Bool.{Bool, true, false, cond, _&&_}
 use mathlib.Core.List.{List, [], _∷_, _++_}
-use Prim.Native.Nat.{ℕ, zero, suc, _+_}
+use Prim.Native.Nat.{ℕ, zero, suc, _<_}
 use lib.ListN.{length}
 use lib.Dec.{leb, ltb, eqb}
 use Rattle.theory.specs.Below.{firstBelow}
-use Rattle.theory.specs.Protocol.{Protocol, size, enabled, fire, terminal, after}
-use Rattle.theory.specs.Ladder.{Layers, enabledIn, lowest}
+use Rattle.theory.specs.Protocol.{Protocol, size, enabled, fire, terminal, fires, after}
+use Rattle.theory.specs.Ladder.{Layers, enabledIn, QuietBelow, lowest}
 pub mod Lists
 pub mod Laws
 
@@ -62,6 +63,13 @@ module _ (P : Protocol) (L : Layers) where
   -- enabled rule.
   unfoldable pub chosen : List ℕ → ℕ
   chosen c = firstBelow (P .rules) (enabledIn P L c (lowest P L c))
+
+  -- Rule r is the one that a run uses at c, in document 01's words: it is enabled, no lower layer has an enabled rule, and no
+  -- lower number of its layer is enabled.
+  pub record Uses (c : List ℕ) (r : ℕ) : Type 0 where
+    pub fires-there : fires P c r ≡ true
+    pub lowest-layer : QuietBelow P L (L .of r) c
+    pub lowest-number : (k : ℕ) → k < r → L .of k ≡ L .of r → enabled P c k ≡ false
 
   -- The rule numbers that a run uses from c: it stops at its limit, or before it where c is terminal.
   unfoldable pub runNumbers : ℕ → List ℕ → List ℕ

@@ -122,7 +122,11 @@ module _ (P : Protocol) where
   meetings c [] = 0
   meetings c (r ∷ rs) = bit (fires c r) + meetings (tried c r) rs
 
-  -- Every meeting of the list is of the kind Q, which speaks of the configuration just before it and of its rule.
+  -- Every number of the list is of the kind Q, which speaks of the configuration on which it is tried and of the number.
+  abbrev pub EachTried : (List ℕ → ℕ → Type 0) → List ℕ → List ℕ → Type 0
+  EachTried Q c [] = Unit {0}
+  EachTried Q c (r ∷ rs) = Q c r × EachTried Q (tried c r) rs
+
+  -- Every meeting of the list is of the kind Q.
   abbrev pub EachMeeting : (List ℕ → ℕ → Type 0) → List ℕ → List ℕ → Type 0
-  EachMeeting Q c [] = Unit {0}
-  EachMeeting Q c (r ∷ rs) = (fires c r ≡ true → Q c r) × EachMeeting Q (tried c r) rs
+  EachMeeting Q c rs = EachTried (λ d r. fires d r ≡ true → Q d r) c rs

@@ -14,10 +14,12 @@ use Rattle.theory.specs.Protocol.{Protocol}
 use Rattle.theory.specs.Ladder.{Layers, lowersAt, lowering, handoverAt, handover, Laddered}
 use Rattle.theory.specs.Ladder.Handover.{handover-exact}
 use Rattle.theory.specs.Facts.{fresh}
-use Rattle.theory.specs.Tree.{Walked, next, refused, Tree, Assumption, disagreement, treeAt, treeAnswer}
+use Rattle.theory.specs.Tree.{Walked, next, refused, Tree, Assumption, treeAt, treeAnswer}
 use Rattle.theory.specs.Tree.Laws.{refused-not-next}
+use Rattle.theory.specs.Subtree.{TreeStands}
 use Rattle.theory.specs.Claims.{Certified}
-use Rattle.format.specs.Format.{Sections, sectionsOf, protocolIn, layersIn, weightIn, treeOf, weightsOf}
+use Rattle.theory.specs.Claims.Proved.{theorems}
+use Rattle.format.specs.Format.{Sections, sectionsOf, protocolIn, layersIn, weightIn, weightsOf}
 use Rattle.format.specs.declared.Header.{Header}
 use Rattle.shape.specs.Shape.{byShape, shapeOf}
 use Rattle.shape.specs.Sound.{SoundShape}
@@ -27,11 +29,10 @@ use Rattle.shape.specs.declared.Shape.the-variants as shape
 use Rattle.leaf.specs.Leaf.Laws.{leaf-good, leaf-bad}
 use Rattle.checker.specs.Check.{certificateTests, walkOf, summaryOf, treeCheck, sectionsCheck, checkOf}
 use Rattle.checker.specs.declared.Summary.{Summary}
-use Rattle.checker.specs.declared.Checked.{Checked}
 use Rattle.checker.specs.declared.Checked.the-variants.{Accepted, Refused}
 use Rattle.claims.specs.Claims.Refusals.{refuse, refused-not-accepted, refusal-is}
 use Rattle.claims.specs.Claims.Handover.{refused-by-10}
-use Rattle.claims.specs.Claims.{Lowers, Rules, Demand2}
+use Rattle.claims.specs.Claims.{Lowers, treeIn, assumed, Rules, Demand2}
 
 -- A tree that is accepted ends behind its last node.
 tree-ends : (P : Protocol) (H : Assumption) (T : Tree) (j : ℕ) → treeAnswer P H T ≡ next j → j ≡ T .nodes
@@ -73,6 +74,10 @@ module _ (b : List ℕ) (h : Header) where
   unfolding lowersAt
   lowers-test r = lt-ltb _ _
 
+  -- The walk accepts just the trees that stand.
+  walked : TreeStands P (assumed b h) (treeIn b h) → walkOf (h .sizes) x ≡ next (h .sizes .nodes)
+  walked = theorems P .tree-stands (assumed b h) (treeIn b h) .1
+
   -- Tests 9 to 11 pass where the rules are kept.
   passes : Rules b h → Passes (certificateTests (h .sizes) x)
   unfolding handover
@@ -89,7 +94,7 @@ module _ (b : List ℕ) (h : Header) where
 
   certificate : Rules b h → sectionsCheck (h .sizes) x ≡ Accepted said
   unfolding sectionsCheck
-  certificate k = passes-judge refuse _ _ (passes k) ∙ ap (treeCheck said) (k .tree)
+  certificate k = passes-judge refuse _ _ (passes k) ∙ ap (treeCheck said) (walked (k .tree))
 
   accepted : Rules b h → checkOf b ≡ Accepted said
   unfolding checkOf
@@ -102,13 +107,13 @@ module _ (b : List ℕ) (h : Header) where
       let end = treeCheck said (walkOf (h .sizes) x) in
       let p = judge-passes refuse end (Accepted f) (λ n k. refused-not-accepted) ts e in
       let v = walk-passes said f _ (sym (passes-judge refuse end ts p) ∙ e) in
-      let j = tree-ends P (disagreement P (weightsOf (h .sizes) (x .leaves))) (treeOf (h .sizes) (x .nodes)) (v .0) (v .1) in
+      let j = tree-ends P (assumed b h) (treeIn b h) (v .0) (v .1) in
       record {
         shape = sound;
         lowering = λ r l. lowers r (not-false _ (p .0 r l));
         handover = handover-exact P L (sound .sections .formed) .0 (all-intro _ (handoverAt P L) (λ s l. not-false _ (p .1 .0 s l)));
         leaf-weights = λ l i s m n o. leaf-good (h .sizes) (x .leaves) l (p .1 .1 .0 l m) i s n o;
-        tree = v .1 ∙ ap next j;
+        tree = theorems P .tree-stands (assumed b h) (treeIn b h) .0 (v .1 ∙ ap next j);
       }
 
   pub laddered : Rules b h → Laddered P L w
@@ -125,9 +130,9 @@ module _ (b : List ℕ) (h : Header) where
     layers = L;
     weight = w;
     ladder = laddered k;
-    tree = treeOf (h .sizes) (x .nodes);
+    tree = treeIn b h;
     leafWeight = weightsOf (h .sizes) (x .leaves);
-    closed = k .tree;
+    closed = walked (k .tree);
   }
 
 module _ (b : List ℕ) where

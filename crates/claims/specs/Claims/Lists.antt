@@ -1,13 +1,14 @@
 -- Demand 3 on the bytes of an accepted docket, from theory's theorems of its protocol. Assumes nothing.
 use mathlib.Core.Path.{_≡_, refl, sym, ap, _∙_, subst₃, fun-ext}
-use mathlib.Core.Bool.{cond}
+use mathlib.Core.Bool.{Bool, true, cond}
 use mathlib.Core.List.{List, [], _∷_}
 use Prim.Native.Nat.{ℕ}
-use Rattle.theory.specs.Protocol.{Protocol}
+use Rattle.theory.specs.Protocol.{Protocol, Start, terminal}
 use Rattle.theory.specs.Ladder.{Layers}
 use Rattle.theory.specs.Machine.Lists.{lastCounts, reported}
-use Rattle.theory.specs.Machine.{Call, Reply, refused, meetingsOf, isSized, reply, countsAfter}
-use Rattle.theory.specs.Claims.{OneOutput, AllRefused, CallsMake, CallsRest}
+use Rattle.theory.specs.Machine.{Call, Reply, refused, meetingsOf, isSized, admitted, reply, countsAfter, numbersOf}
+use Rattle.theory.specs.Machine.Laws.{admitted-last, lastCounts-after}
+use Rattle.theory.specs.Claims.{Reaches, Consensus, OneOutput, AllRefused, CallsMake, CallsRest}
 use Rattle.theory.specs.Claims.Proved.{theorems}
 use Rattle.format.specs.Format.{protocolIn, layersIn, weightIn}
 use Rattle.format.specs.declared.Header.{Header}
@@ -16,9 +17,11 @@ use Rattle.shape.specs.Sound.{SoundShape}
 use Rattle.shape.specs.Sound.Laws.{shape-sound}
 use Rattle.shape.specs.declared.Refusal.{Refusal}
 use Rattle.shape.specs.declared.Shape.the-variants as shape
-use Rattle.machine.specs.Calls.{replyOf, countsOf}
+use Rattle.machine.specs.Calls.{verdictOf, replyOf, countsOf}
+use Rattle.machine.specs.declared.Verdict.the-variants as shown
 use Rattle.claims.specs.Claims.{Rules, lastOn, reportedOn, CallsOn, Demand3}
 use Rattle.claims.specs.Claims.Exact.{certified, laddered}
+use Rattle.claims.specs.Claims.Says.{demand-1}
 
 -- A refused shape is passed back.
 abbrev passBack : Refusal → Reply
@@ -64,6 +67,23 @@ calls-on b h sound c =
       refuse = λ off. on-bytes b h sound c (λ say last total. AllRefused c say last total (cond (isSized P c) 21 20) 0) (theorems P .calls-refused L c off);
     }
 
+-- From a start, the verdict call says one verdict after all lists of calls that end at a standstill.
+one-verdict : (b : List ℕ) (h : Header) (sound : SoundShape b h) → Consensus (protocolIn b h) → (c : List ℕ) → Start (protocolIn b h) c
+    → admitted (protocolIn b h) c ≡ true
+    → (v : Bool) × ((xs : List Call) → terminal (protocolIn b h) (lastOn b c xs) ≡ true → verdictOf b (lastOn b c xs) ≡ shown.Agreed v)
+one-verdict b h sound one c start on =
+    let P = protocolIn b h in
+    let L = layersIn b h in
+    let v = one c start in (
+      v .0,
+      λ xs t.
+          let d = lastOn b c xs in
+          let to : d ≡ lastCounts P L c xs = same-last b h sound c xs in
+          let still : admitted P d ≡ true = ap (admitted P) to ∙ admitted-last P L (sound .sections .formed) c xs on in
+          let reached : Reaches P c d = (numbersOf P L c xs, sym (to ∙ lastCounts-after P L c xs)) in
+          demand-1 b d .verdict .own h sound still .0 (v .0) .1 (v .1 d reached t),
+    )
+
 pub demand-3 : (b : List ℕ) (h : Header) → Rules b h → (c : List ℕ) → Demand3 b h c
 demand-3 b h keeps c =
     let P = protocolIn b h in
@@ -74,8 +94,10 @@ demand-3 b h keeps c =
       rests = lad .rests c;
       calls-rest = λ long. on-bytes b h (keeps .shape) c (CallsRest P L (weightIn b h) c) (lad .calls-rest c long);
       rank-is = lad .rank-is c;
+      some-list = lad .some-list c;
       one-output = theorems P .one-output one c;
       calls-one-output = on-bytes b h (keeps .shape) c (λ _ last _. OneOutput P c last) (theorems P .calls-one-output one L c);
+      calls-verdict = λ start on. one-verdict b h (keeps .shape) one c start on;
       of-calls = calls-on b h (keeps .shape) c;
     }
 

@@ -1,13 +1,16 @@
--- Which refusals a call can give. Assumes nothing.
+-- Which refusals a call can give, what a refusal of tests 1 to 8 means, and that a refused call changes nothing. Assumes
+-- nothing.
 use mathlib.Core.Path.{_≡_, refl, sym, ap, _∙_}
-use mathlib.Core.Bool.{Bool, true, false, cond, true≢false}
+use mathlib.Core.Bool.{Bool, true, false, cond, _||_, true≢false}
 use mathlib.Core.List.{List, [], _∷_, _++_}
-use mathlib.Core.Logic.{⊎-elim}
+use mathlib.Core.Logic.{_↔_, ⊎-elim}
 use Prim.Native.Nat.{ℕ, zero, suc}
+use native.Mathlib.Omega.{arith}
 use borrow.Author.Tests.{not-true}
 use lib.Dec.{ltb, eqb}
 use Rattle.theory.specs.Bool.Laws.{by-test, or-left, or-right, or-elim}
-use Rattle.theory.specs.Judge.{Test, place, judge}
+use Rattle.theory.specs.Judge.{Test, place, judge, FirstFits}
+use Rattle.theory.specs.Judge.Laws.{refused-by, fits-refuses}
 use Rattle.theory.specs.Protocol as protocol
 use Rattle.theory.specs.Protocol.{Protocol, enabled, terminal, verdict, startTest, after}
 use Rattle.theory.specs.Protocol.Lists.{tried-not}
@@ -37,7 +40,21 @@ use Rattle.machine.specs.declared.YesNo as answers
 use Rattle.machine.specs.declared.YesNo.the-variants as answer
 use Rattle.machine.specs.declared.Verdict as verdicts
 use Rattle.machine.specs.declared.Verdict.the-variants as shown
-use Rattle.claims.specs.Claims.{isOneOf, shapeNumbers, callNumbers, Demand1}
+use Rattle.claims.specs.Claims.{passBack}
+
+unfoldable pub isOneOf : ℕ → List ℕ → Bool
+isOneOf n [] = false
+isOneOf n (m ∷ ms) = eqb n m || isOneOf n ms
+
+-- The refusals of tests 1 to 8, of the check, and of every machine call.
+abbrev pub shapeNumbers : List ℕ
+shapeNumbers = 1 ∷ 2 ∷ 3 ∷ 4 ∷ 5 ∷ 6 ∷ 7 ∷ 8 ∷ []
+
+abbrev pub checkNumbers : List ℕ
+checkNumbers = shapeNumbers ++ 9 ∷ 10 ∷ 11 ∷ 12 ∷ 13 ∷ []
+
+abbrev pub callNumbers : List ℕ
+callNumbers = shapeNumbers ++ 20 ∷ 21 ∷ []
 
 -- The number of a refusal. An answer that is no refusal counts as 1 here, so that the laws below speak of every answer.
 abbrev pub shapeNumber : shapes.Shape → ℕ
@@ -52,20 +69,20 @@ abbrev pub checkNumber : Checked → ℕ
 checkNumber (Accepted f) = 1
 checkNumber (Refused r) = r .number
 
-abbrev startNumber : starteds.Started → ℕ
+abbrev pub startNumber : starteds.Started → ℕ
 startNumber started.Start = 1
 startNumber (started.Refused r) = r .number
 
-abbrev answerNumber : answers.YesNo → ℕ
+abbrev pub answerNumber : answers.YesNo → ℕ
 answerNumber (answer.Is t) = 1
 answerNumber (answer.Refused r) = r .number
 
-abbrev verdictNumber : verdicts.Verdict → ℕ
+abbrev pub verdictNumber : verdicts.Verdict → ℕ
 verdictNumber (shown.Agreed v) = 1
 verdictNumber shown.Mixed = 1
 verdictNumber (shown.Refused r) = r .number
 
-abbrev replyNumber : Reply → ℕ
+abbrev pub replyNumber : Reply → ℕ
 replyNumber stepped = 1
 replyNumber (ran n rests) = 1
 replyNumber (refused n k) = n
@@ -96,6 +113,23 @@ unfolding shapeOf headerShape isOneOf
 shape-number b =
     judge-number shapeNumber (λ n k. shape.Refused (refusal n k)) (shape.Sound (headerOf b)) shapeNumbers (λ n k. refl) refl
     (shapeTests b (headerOf b)) (refl, (refl, (refl, (refl, (refl, (refl, (refl, (refl, tt))))))))
+
+-- A refusal of tests 1 to 8 is the first of them that fits.
+placeIn : shapes.Shape → ℕ
+placeIn (shape.Sound h) = 0
+placeIn (shape.Refused r) = r .place
+
+pub shape-refusal-is : (b : List ℕ) (n k : ℕ) → (shapeOf b ≡ shape.Refused (refusal n k)) ↔ FirstFits (shapeTests b (headerOf b)) n k
+unfolding shapeOf headerShape placeIn
+shape-refusal-is b n k =
+    let refuse : ℕ → ℕ → shapes.Shape = λ n k. shape.Refused (refusal n k) in
+    let ts = shapeTests b (headerOf b) in
+    let sound = shape.Sound (headerOf b) in (
+      λ e.
+          ⊎-elim (λ f. f) (λ p. absurd (let z : _≡_ {A = ℕ} 0 1 = cc (p .1) in omega arith))
+          (refused-by refuse sound (λ n k m j q. (ap shapeNumber q, ap placeIn q)) ts n k e),
+      fits-refuses refuse sound ts n k,
+    )
 
 -- ---- The machine calls
 
@@ -128,7 +162,7 @@ module _ (b c : List ℕ) where
             (to (refusal 20 0) refl)
         go (shape.Refused r) p = to r (front (r .number) shapeNumbers (20 ∷ 21 ∷ ns) p)
 
-  start-number : isOneOf (startNumber (startOf b c)) (callNumbers ++ 22 ∷ []) ≡ true
+  pub start-number : isOneOf (startNumber (startOf b c)) (callNumbers ++ 22 ∷ []) ≡ true
   unfolding startOf startAnswer isOneOf
   start-number =
       call-number startNumber started.Refused _ (22 ∷ []) (λ r. refl)
@@ -136,7 +170,7 @@ module _ (b c : List ℕ) where
       let P = protocolIn b h in
       either startNumber (ltb (startTest P c) (P .states)) (started.Refused (refusal 22 (startTest P c))) started.Start (callNumbers ++ 22 ∷ []) refl refl)
 
-  enabled-number : (r : ℕ) → isOneOf (answerNumber (enabledOf b c r)) (callNumbers ++ 23 ∷ []) ≡ true
+  pub enabled-number : (r : ℕ) → isOneOf (answerNumber (enabledOf b c r)) (callNumbers ++ 23 ∷ []) ≡ true
   unfolding enabledOf enabledAnswer isOneOf
   enabled-number r =
       call-number answerNumber answer.Refused _ (23 ∷ []) (λ r. refl)
@@ -144,7 +178,7 @@ module _ (b c : List ℕ) where
       let P = protocolIn b h in
       either answerNumber (ltb r (P .rules)) (answer.Is (enabled P c r)) (answer.Refused (refusal 23 r)) (callNumbers ++ 23 ∷ []) refl refl)
 
-  terminal-number : isOneOf (answerNumber (terminalOf b c)) callNumbers ≡ true
+  pub terminal-number : isOneOf (answerNumber (terminalOf b c)) callNumbers ≡ true
   unfolding terminalOf terminalAnswer isOneOf
   terminal-number = call-number answerNumber answer.Refused (λ h. answer.Is (terminal (protocolIn b h) c)) [] (λ r. refl) (λ h. refl)
 
@@ -152,28 +186,24 @@ module _ (b c : List ℕ) where
   shown-number (protocol.agreed v) = refl
   shown-number protocol.mixed = refl
 
-  verdict-number : isOneOf (verdictNumber (verdictOf b c)) callNumbers ≡ true
+  pub verdict-number : isOneOf (verdictNumber (verdictOf b c)) callNumbers ≡ true
   unfolding verdictOf verdictAnswer isOneOf
   verdict-number =
       call-number verdictNumber shown.Refused (λ h. verdictAs (verdict (protocolIn b h) c)) [] (λ r. refl)
       (λ h. ap (λ n. isOneOf n callNumbers) (shown-number (verdict (protocolIn b h) c)))
 
-  -- Step and run pass the refusal of a shape back as theirs.
-  abbrev passBack : Refusal → Reply
-  passBack r = refused (r .number) (r .place)
-
-  step-number : (r : ℕ) → isOneOf (replyNumber (replyOf b c (step r))) (callNumbers ++ 23 ∷ 24 ∷ []) ≡ true
+  pub step-number : (r : ℕ) → isOneOf (replyNumber (replyOf b c (step r))) (callNumbers ++ 23 ∷ 24 ∷ []) ≡ true
   unfolding replyOf reply stepReply isOneOf
   step-number r =
-      call-number replyNumber passBack (λ h. stepReply (protocolIn b h) c r) (23 ∷ 24 ∷ []) (λ r. refl)
+      call-number replyNumber (passBack b c) (λ h. stepReply (protocolIn b h) c r) (23 ∷ 24 ∷ []) (λ r. refl)
       (λ h.
       let P = protocolIn b h in
       let ns = callNumbers ++ 23 ∷ 24 ∷ [] in
       either replyNumber (ltb r (P .rules)) _ (refused 23 r) ns (either replyNumber (enabled P c r) stepped (refused 24 r) ns refl refl) refl)
 
-  run-number : (limit : ℕ) → isOneOf (replyNumber (replyOf b c (run limit))) callNumbers ≡ true
+  pub run-number : (limit : ℕ) → isOneOf (replyNumber (replyOf b c (run limit))) callNumbers ≡ true
   unfolding replyOf reply runReply isOneOf
-  run-number limit = call-number replyNumber passBack (λ h. runReply (protocolIn b h) (layersIn b h) c limit) [] (λ r. refl) (λ h. refl)
+  run-number limit = call-number replyNumber (passBack b c) (λ h. runReply (protocolIn b h) (layersIn b h) c limit) [] (λ r. refl) (λ h. refl)
 
 -- ---- The tree
 
@@ -220,9 +250,6 @@ module _ (ns : List ℕ) (p : isOneOf 12 ns ≡ true) (q : isOneOf 13 ns ≡ tru
 
 -- ---- The check
 
-abbrev checkNumbers : List ℕ
-checkNumbers = shapeNumbers ++ 9 ∷ 10 ∷ 11 ∷ 12 ∷ 13 ∷ []
-
 tree-check : (f : Summary) (a : Walked) → isOneOf (walkNumber a) checkNumbers ≡ true → isOneOf (checkNumber (treeCheck f a)) checkNumbers ≡ true
 unfolding isOneOf
 tree-check f (next j) p = refl
@@ -238,7 +265,7 @@ sections-number b h =
     (tree-number checkNumbers refl refl P (disagreement P (weightsOf (h .sizes) (x .leaves))) (treeOf (h .sizes) (x .nodes))))
     (certificateTests (h .sizes) x) (refl, (refl, (refl, tt)))
 
-check-number : (b : List ℕ) → isOneOf (checkNumber (checkOf b)) checkNumbers ≡ true
+pub check-number : (b : List ℕ) → isOneOf (checkNumber (checkOf b)) checkNumbers ≡ true
 unfolding checkOf
 check-number b = go (shapeOf b) (shape-number b)
   where
@@ -263,7 +290,7 @@ unchanged-on P L c x n k e = by-test (admitted P c) (on x e) (λ off. ap (after 
         ∙ tried-not P c r (not-true _ (sym (step-refused P c r) ∙ ap isRefused (sym (reply-step P L c r a) ∙ e)))
     on (run limit) e a = absurd (ran-not-refused (sym (reply-run P L c limit a) ∙ e))
 
-unchanged : (b c : List ℕ) (x : Call) (n k : ℕ) → replyOf b c x ≡ refused n k → countsOf b c x ≡ c
+pub unchanged : (b c : List ℕ) (x : Call) (n k : ℕ) → replyOf b c x ≡ refused n k → countsOf b c x ≡ c
 unfolding replyOf countsOf
 unchanged b c x n k e = go (shapeOf b) e
   where
@@ -271,15 +298,3 @@ unchanged b c x n k e = go (shapeOf b) e
         → byShape (λ _. c) (λ h. countsAfter (protocolIn b h) (layersIn b h) c x) s ≡ c
     go (shape.Sound h) u = unchanged-on (protocolIn b h) (layersIn b h) c x n k u
     go (shape.Refused r) u = refl
-
-pub demand-1 : (b c : List ℕ) → Demand1 b c
-demand-1 b c = record {
-  check = λ n k e. ap (λ a. isOneOf (checkNumber a) checkNumbers) (sym e) ∙ check-number b;
-  start = λ n k e. ap (λ a. isOneOf (startNumber a) (callNumbers ++ 22 ∷ [])) (sym e) ∙ start-number b c;
-  can-act = λ r n k e. ap (λ a. isOneOf (answerNumber a) (callNumbers ++ 23 ∷ [])) (sym e) ∙ enabled-number b c r;
-  standstill = λ n k e. ap (λ a. isOneOf (answerNumber a) callNumbers) (sym e) ∙ terminal-number b c;
-  verdict = λ n k e. ap (λ a. isOneOf (verdictNumber a) callNumbers) (sym e) ∙ verdict-number b c;
-  of-step = λ r n k e. ap (λ a. isOneOf (replyNumber a) (callNumbers ++ 23 ∷ 24 ∷ [])) (sym e) ∙ step-number b c r;
-  of-run = λ limit n k e. ap (λ a. isOneOf (replyNumber a) callNumbers) (sym e) ∙ run-number b c limit;
-  unchanged = unchanged b c;
-}

@@ -1,20 +1,22 @@
 -- A refusal of the check is the first test that fits, at its lowest place. Assumes nothing.
 use mathlib.Core.Path.{_≡_, sym, ap, _∙_}
-use mathlib.Core.List.{List, _++_}
+use mathlib.Core.List.{List}
 use mathlib.Core.Logic.{_↔_, _⊎_, inl, inr, ⊎-elim}
 use Prim.Native.Nat.{ℕ}
 use native.Mathlib.Omega.{arith}
 use Rattle.theory.specs.Judge.{judge, Passes, FirstFits}
 use Rattle.theory.specs.Judge.Laws.{judge-map, judge-append, passes-judge, refused-by, fits-refuses}
 use Rattle.theory.specs.Tree.{Walked, next, refused}
-use Rattle.format.specs.Format.{headerOf, sectionsOf}
+use Rattle.theory.specs.Subtree.{TreeFails}
+use Rattle.theory.specs.Claims.Proved.{theorems}
+use Rattle.format.specs.Format.{headerOf, sectionsOf, protocolIn}
 use Rattle.shape.specs.Shape.{refusal, shapeTests, headerShape, shapeOf, byShape}
 use Rattle.shape.specs.declared.Shape.the-variants as shape
 use Rattle.checker.specs.Check.{certificateTests, walkOf, summaryOf, treeCheck, sectionsCheck, checkOf}
 use Rattle.checker.specs.declared.Summary.{Summary}
 use Rattle.checker.specs.declared.Checked.{Checked}
 use Rattle.checker.specs.declared.Checked.the-variants.{Accepted, Refused}
-use Rattle.claims.specs.Claims.{testsIn}
+use Rattle.claims.specs.Claims.{treeIn, assumed, testsIn}
 
 -- The check's refusal by number n at place k.
 abbrev pub refuse : ℕ → ℕ → Checked
@@ -53,12 +55,15 @@ module _ (b : List ℕ) where
 
   pub refusal-is : (n k : ℕ) → let h = headerOf b in
       (checkOf b ≡ refuse n k)
-      ↔ (FirstFits (testsIn b h) n k ⊎ (Passes (testsIn b h) × (walkOf (h .sizes) (sectionsOf b h) ≡ refused n k)))
+      ↔ (FirstFits (testsIn b h) n k ⊎ (Passes (testsIn b h) × TreeFails (protocolIn b h) (assumed b h) (treeIn b h) n k))
   refusal-is n k =
       let h = headerOf b in
-      let f = summaryOf (h .sizes) (sectionsOf b h) in (
-        λ e. ⊎-elim inl (λ p. inr (p .0, walk-refused f _ n k (p .1))) (refused-by refuse end tells (testsIn b h) n k (sym check-judges ∙ e)),
+      let f = summaryOf (h .sizes) (sectionsOf b h) in
+      let tree = theorems (protocolIn b h) .tree-fails (assumed b h) (treeIn b h) n k in (
+        λ e.
+            ⊎-elim inl (λ p. inr (p .0, tree .0 (walk-refused f _ n k (p .1))))
+            (refused-by refuse end tells (testsIn b h) n k (sym check-judges ∙ e)),
         ⊎-elim
             (λ g. check-judges ∙ fits-refuses refuse end (testsIn b h) n k g)
-            (λ p. check-judges ∙ passes-judge refuse end (testsIn b h) (p .0) ∙ ap (treeCheck f) (p .1)),
+            (λ p. check-judges ∙ passes-judge refuse end (testsIn b h) (p .0) ∙ ap (treeCheck f) (tree .1 (p .1))),
       )

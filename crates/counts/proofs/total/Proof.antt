@@ -1,19 +1,22 @@
 -- `counts::total` meets its contract: the sum of the counts below i, which is small.
-use Prim.Native.Nat.{_≤_, _-_}
+use mathlib.Core.Path.{_≡_}
+use Prim.Native.Nat.{_≤_, _-_, _*_}
 use lib.ListN.{getD}
-use Rattle.counts.specs.Code.Laws.{Summed, sum-none, sum-more, sum-fits, sum-done}
+use Rattle.theory.specs.Below.{sumBelow}
+use Rattle.theory.specs.Below.Scan.{sum-none, sum-more}
+use Rattle.counts.specs.Code.Laws.{sum-done}
 use borrow.Author.Needs.{needs}
 use Rattle.counts.proofs.total.Statement.{statement}
 use Rattle.counts.proofs.total.Tie as tie
 
 abbrev Inv-loop : tie.InvT-loop
-Inv-loop counts n sum₀ i₀ sum i = (i ≤ n) × Summed (λ s. getD counts s 0) i sum
+Inv-loop counts n sum₀ i₀ sum i = (i ≤ n) × (sum ≤ 4294967295 * i) × (sum ≡ sumBelow i (λ s. getD counts s 0))
 
 abbrev μ-loop : tie.MeasureT-loop
 μ-loop counts n sum₀ i₀ sum i = n - i
 
 loop-holds : tie.Need-loop-holds Inv-loop μ-loop
-loop-holds c = (search needs, sum-none _)
+loop-holds c = search (sum-none, needs)
 
 cast-count : tie.Need-cast-count Inv-loop μ-loop
 cast-count c = search needs
@@ -25,7 +28,7 @@ cast-sum : tie.Need-cast-sum Inv-loop μ-loop
 cast-sum c = search needs
 
 add-sum : tie.Need-add-sum Inv-loop μ-loop
-add-sum c = search (sum-fits, needs)
+add-sum c = search needs
 
 add-i : tie.Need-add-i Inv-loop μ-loop
 add-i c = search needs

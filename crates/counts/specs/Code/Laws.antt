@@ -5,7 +5,6 @@ use mathlib.Core.List.{List}
 use mathlib.Core.Logic.{_⊎_, inl, inr, ⊎-elim, by-cases}
 use Prim.Native.Nat.{ℕ, _+_, _-_, _*_, _≤_, _<_}
 use native.Mathlib.Decide.{decLt, ℕ-discrete}
-use native.Mathlib.Numerals.{add-one}
 use native.Mathlib.Omega.{arith}
 use borrow.Author.Tests.{lt-ltb, le-ltb, le-leb, lt-leb, leb-true, eq-eqb, eqb-true, not-true, not-false}
 use lib.Dec.{leb, ltb, eqb}
@@ -82,30 +81,10 @@ pub most-fits : (c : List ℕ) (s : ℕ) → Most 1000001 c → count c s + 1 < 
 unfolding Most
 most-fits c s h = omega (arith, h s)
 
--- ---- The sum
-
--- The sum of the first i numbers, and that it is small.
-pub record Summed (f : ℕ → ℕ) (i t : ℕ) : Type 0 where
-  pub is : t ≡ sumBelow i f
-  pub small : t ≤ i * 4294967295
-
-module _ (f : ℕ → ℕ) where
-  pub sum-none : Summed f 0 0
-  unfolding sumBelow
-  sum-none = record { is = refl; small = omega arith }
-
-  module _ (i t : ℕ) (h : Summed f i t) where
-    pub sum-more : (n : ℕ) → n ≡ f i → n < 4294967296 → Summed f (i + 1) (t + n)
-    unfolding sumBelow
-    sum-more n e l = record { is = rw (add-one i) (omega (arith, h .is)); small = omega (arith, h .small) }
-
-    pub sum-fits : (n : ℕ) → i < 65536 → n < 4294967296 → t + n < 18446744073709551616
-    sum-fits n l m = omega (arith, h .small)
-
-    pub sum-done : (n : ℕ) → i ≤ n → n ≤ i → t ≡ sumBelow n f
-    sum-done n = at-end (λ k. sumBelow k f) i n t (h .is)
-
 -- ---- Tests 20 and 21
+
+pub sum-done : (f : ℕ → ℕ) (i n t : ℕ) → t ≡ sumBelow i f → i ≤ n → n ≤ i → t ≡ sumBelow n f
+sum-done f = at-end (λ k. sumBelow k f)
 
 size-sum : (c : List ℕ) → size c ≡ sumBelow (length c) (λ s. getD c s 0)
 unfolding size

@@ -31,7 +31,7 @@ use Rattle.shape.specs.Code.{Lengths}
 -- ---- From the tests to the words
 
 module _ (z : Sizes) where
-  limits : Clear (nth (countFaults z)) 5 → Limits z
+  pub limits : Clear (nth (countFaults z)) 5 → Limits z
   limits clear =
       let states = or-fails (ltb (z .states) 2) (ltb 64 (z .states)) (clear 0 (omega arith)) in
       let nodes = or-fails (ltb (z .nodes) 1) (ltb 2048 (z .nodes)) (clear 3 (omega arith)) in

@@ -46,8 +46,9 @@ pub calls-none : (numbersOf broadcast oneLayer (1 ∷ 1 ∷ 0 ∷ []) (step 0 �
 unfolding calling
 calls-none = (refl, refl, refl, refl, refl)
 
--- P8 and P9: the runs from 2 1 0 0 and from 1 1 0 0. A run uses rule 2 of layer 0 before rule 0 of layer 1. Then steps
--- and a run in one list, where 9 is no rule and rule 3 is not enabled.
+-- P8 and P9: the runs from 2 1 0 0 and from 1 1 0 0. A run uses rule 2 of layer 0 before rule 0 of layer 1, and of
+-- the rules 0 and 1 of layer 0, both enabled at 1 1 0 1, the lower. Then steps and a run in one list, where 9 is no rule
+-- and rule 3 is not enabled.
 pub machine : (runNumbers majority twoLayers 4294967295 (2 ∷ 1 ∷ 0 ∷ 0 ∷ []) ≡ 0 ∷ 1 ∷ [])
     × (lastCounts majority twoLayers (2 ∷ 1 ∷ 0 ∷ 0 ∷ []) (run 4294967295 ∷ []) ≡ 1 ∷ 0 ∷ 2 ∷ 0 ∷ [])
     × (reply majority twoLayers (2 ∷ 1 ∷ 0 ∷ 0 ∷ []) (run 4294967295) ≡ ran 2 true)
@@ -56,8 +57,9 @@ pub machine : (runNumbers majority twoLayers 4294967295 (2 ∷ 1 ∷ 0 ∷ 0 ∷
     × (runNumbers majority twoLayers 4294967295 (1 ∷ 1 ∷ 0 ∷ 0 ∷ []) ≡ 0 ∷ 3 ∷ [])
     × (lastCounts majority twoLayers (1 ∷ 1 ∷ 0 ∷ 0 ∷ []) (run 4294967295 ∷ []) ≡ 0 ∷ 0 ∷ 0 ∷ 2 ∷ [])
     × (chosen majority exchanged (1 ∷ 1 ∷ 1 ∷ 0 ∷ []) ≡ 2)
+    × (chosen majority twoLayers (1 ∷ 1 ∷ 0 ∷ 1 ∷ []) ≡ 0)
     × (numbersOf majority twoLayers (2 ∷ 1 ∷ 0 ∷ 0 ∷ []) (step 9 ∷ step 3 ∷ step 0 ∷ run 5 ∷ []) ≡ 9 ∷ 3 ∷ 0 ∷ 1 ∷ [])
     × (reported majority twoLayers (2 ∷ 1 ∷ 0 ∷ 0 ∷ []) (step 9 ∷ step 3 ∷ step 0 ∷ run 5 ∷ []) ≡ 2)
     × (reported majority twoLayers (2 ∷ 1 ∷ 0 ∷ 0 ∷ []) (run 5 ∷ []) ≡ 2)
 unfolding calling
-machine = (refl, refl, refl, refl, refl, refl, refl, refl, refl, refl, refl)
+machine = (refl, refl, refl, refl, refl, refl, refl, refl, refl, refl, refl, refl)

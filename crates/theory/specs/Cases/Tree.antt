@@ -8,6 +8,7 @@ use lib.IntN.{ℤ, pos, negsuc}
 use Rattle.theory.specs.Protocol.{Protocol}
 use Rattle.theory.specs.Facts.{Facts, withAbsent, withPresent, withAtMostOne, withUnused, fresh}
 use Rattle.theory.specs.Leaf.{leafCloses, signed, signedSum, upperSum, lowerSum}
+use Rattle.theory.specs.Tree.{caseSplit, trap, siphon, children}
 use Rattle.theory.specs.Tree.{Tree, Walked, next, refused, takes, puts, touches, disagreement, treeAnswer}
 use Rattle.theory.specs.Cases.Protocol.{column, rows, broadcast, twins, majority}
 use Rattle.theory.specs.Unfold.{walking, closing}
@@ -131,6 +132,11 @@ pub kind-7 : (lone 7 0 0 0 ≡ refused 12 0)
 unfolding answerWith
 kind-7 = (refl, refl, refl)
 
+-- One sort of the facts of each child.
+abbrev each : (Facts → ℕ → ℕ → Bool) → List Facts → List (ℕ → ℕ → Bool)
+each f [] = []
+each f (G ∷ Gs) = f G ∷ each f Gs
+
 -- ---- Broadcast
 
 -- The nodes of the broadcast docket, with node 2's set.
@@ -241,6 +247,26 @@ pub trap-rules : (answer broadcast
     (1 ∷ 1 ∷ 0 ∷ 0 ∷ []) ∷ (6 ∷ 2 ∷ 0 ∷ 2 ∷ []) ∷ (1 ∷ 2 ∷ 0 ∷ 0 ∷ []) ∷ [])) ≡ next 8)
 unfolding answerWith
 trap-rules = refl
+
+-- Only the rules that touch the set become unused. On majority: the trap of A and b at end 1 (node 2) touches all four
+-- rules, so that the set of a is a trap behind it (node 4), and the tree goes on to node 5, which it lacks. The siphon of A
+-- (node 1) touches the rules 0 and 1, which leaves no rule that puts into a, so that the set of a is a siphon (node 2).
+pub touched-unused : (answer majority
+    (tree 5 0 ((4 ∷ 1 ∷ 0 ∷ 0 ∷ []) ∷ (4 ∷ 1 ∷ 3 ∷ 0 ∷ []) ∷ (5 ∷ 1 ∷ 0 ∷ 9 ∷ []) ∷ (4 ∷ 1 ∷ 2 ∷ 0 ∷ []) ∷ (5 ∷ 1 ∷ 0 ∷ 4 ∷ []) ∷ [])) ≡ refused 12 5)
+    × (answer majority (tree 3 0 ((4 ∷ 0 ∷ 0 ∷ 0 ∷ []) ∷ (6 ∷ 1 ∷ 0 ∷ 1 ∷ []) ∷ (6 ∷ 1 ∷ 0 ∷ 4 ∷ []) ∷ [])) ≡ refused 12 3)
+unfolding answerWith
+touched-unused = (refl, refl)
+
+-- Each child keeps the facts that it is handed: of presence, of at most one, and of rules not touched.
+pub kept : (P : Protocol) (F : Facts) (k s w : ℕ)
+    → (each (λ G. G .present) (children P F (trap k w)) ≡ F .present ∷ [])
+    × (each (λ G. G .present) (children P F (siphon k w)) ≡ F .present ∷ [])
+    × (each (λ G. G .atMostOne) (children P F (trap k w)) ≡ F .atMostOne ∷ [])
+    × (each (λ G. G .atMostOne) (children P F (siphon k w)) ≡ F .atMostOne ∷ [])
+    × (each (λ G. G .atMostOne) (children P F (caseSplit k s)) ≡ F .atMostOne ∷ F .atMostOne ∷ [])
+    × (each (λ G. G .unused) (children P F (caseSplit k s)) ≡ F .unused ∷ F .unused ∷ [])
+unfolding walking
+kept P F k s w = (refl, refl, refl, refl, refl, refl)
 
 -- ---- At most one
 

@@ -33,6 +33,8 @@ use Rattle.theory.specs.Machine.Laws.{numbersOf-append, numbersOf-snoc, 
 use Rattle.theory.specs.Claims.Theorems.{HandoverExact, Theorems}
 use Rattle.theory.specs.Claims.{Certified, Reaches, AsPublished, LayeredBy, LayeredTermination, Consensus, StrongConsensus, WS², WS³, Rests}
 use Rattle.theory.specs.Claims.{RunMakes, CallsMake, CallsRest, Rank, AllRefused}
+use Rattle.theory.specs.Subtree.Laws.{tree-stands, tree-fails}
+use Rattle.theory.specs.Claims.LayerWords.{layers-are}
 use Rattle.theory.specs.Claims.Layered.{layered-terminates}
 
 module _ (P : Protocol) (good : WellFormed P) where
@@ -130,6 +132,7 @@ module _ (P : Protocol) {L : Layers} (good : WellFormed P) (part : OrderedPartit
       steps = length rs;
       rests = terminal P (after P d rs);
       says = reply-run P L d limit still;
+      uses = r .uses;
       are-meetings = omega (arith, ap (meetings P c) (more (run limit)), meetings-append P c made rs, ap (λ e. meetings P e rs) to, r .all-meet);
       at-rest = ap (terminal P) (sym (counts-more (run limit)));
       limited = r .kept;
@@ -211,6 +214,11 @@ module _ (P : Protocol) {L : Layers} {w : ℕ → ℕ → ℕ} (lad : Laddered P
         by-cases (decLt (length (runNumbers P L limit c)) limit) (r .short)
         (λ g. layered-rests P lad c (runNumbers P L limit c) long (r .is-layered) (omega (arith, rank-is .bound, r .all-meet)))
 
+    some-list : (rs : List ℕ) × (layered P L c rs ≡ true) × (terminal P (after P c rs) ≡ true)
+    some-list =
+        let limit = size c * spreads P L w in
+        (runNumbers P L limit c, runNumbers-is P (lad .partition) limit c .is-layered, run-rests limit (omega arith))
+
   module _ (c : List ℕ) (long : length c ≡ P .states) where
     calls-rest : CallsRest P L w c (reply P L) (lastCounts P L c) (reported P L c)
     calls-rest = record {
@@ -271,6 +279,9 @@ module _ (P : Protocol) (cert : Certified P) where
 pub theorems : (P : Protocol) → Theorems P
 theorems P = record {
   as-published = as-published P;
+  layers-are = λ good part. layers-are P part good;
+  tree-stands = tree-stands P;
+  tree-fails = tree-fails P;
   leaf-is = leaf-is P;
   start-exact = start-test P;
   handover-exact = handover-is-exact P;
@@ -288,6 +299,7 @@ theorems P = record {
     layered-by = layered-by P lad;
     layer-bound = meetings-alone P lad;
     rank-is = rank-is P lad;
+    some-list = some-list P lad;
     rests = rests P lad;
     calls-rest = calls-rest P lad;
   };

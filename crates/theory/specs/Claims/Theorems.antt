@@ -5,15 +5,17 @@ use mathlib.Core.List.{List}
 use mathlib.Core.Logic.{_↔_}
 use Prim.Native.Nat.{ℕ, _-_, _*_, _≤_, _<_}
 use lib.ListN.{length}
-use Rattle.theory.specs.Protocol.{Protocol, WellFormed, size, Start, startTest, after, meetings}
+use Rattle.theory.specs.Protocol.{Protocol, WellFormed, size, Start, startTest, terminal, after, meetings}
 use Rattle.theory.specs.Ladder.{Layers, OrderedPartition, handoverAt, handover, Broken, layered, Alone, Laddered, spread}
 use Rattle.theory.specs.Facts.{Facts}
 use Rattle.theory.specs.Leaf.{leafCloses, signed, LeafRule}
+use Rattle.theory.specs.Tree.{Tree, Assumption, next, refused, treeAnswer}
+use Rattle.theory.specs.Subtree.{TreeStands, TreeFails}
 use Rattle.theory.specs.Potential.{Potential}
 use Rattle.theory.specs.Machine.{isSized, admitted, reply}
-use Rattle.theory.specs.Potential.Runs.{parikh, parikh}
-use Rattle.theory.specs.Machine.Lists.{lastCounts, reported, lastCounts, reported}
-use Rattle.theory.specs.Claims.{Certified, AsPublished, LayeredBy, LayeredTermination, Consensus, StrongConsensus, Termination, WS², WS³}
+use Rattle.theory.specs.Potential.Runs.{parikh}
+use Rattle.theory.specs.Machine.Lists.{lastCounts, reported}
+use Rattle.theory.specs.Claims.{Certified, AsPublished, LayersAre, LayeredBy, LayeredTermination, Consensus, StrongConsensus, Termination, WS², WS³}
 use Rattle.theory.specs.Claims.{Rests, OneOutput, AllRefused, CallsMake, CallsRest, Rank}
 
 module _ (P : Protocol) where
@@ -34,6 +36,8 @@ pub record OfLadder (P : Protocol) (L : Layers) (w : ℕ → ℕ → ℕ) : Type
   pub layered-by : LayeredBy P L
   pub layer-bound : (i : ℕ) (c rs : List ℕ) → length c ≡ P .states → Alone P L i c rs → meetings P c rs ≤ size c * spread (P .states) (w i)
   pub rank-is : (c : List ℕ) → length c ≡ P .states → Rank P L w c
+  -- From every configuration some layered list ends terminal.
+  pub some-list : (c : List ℕ) → length c ≡ P .states → (rs : List ℕ) × (layered P L c rs ≡ true) × (terminal P (after P c rs) ≡ true)
   -- Demand 3, but for the verdict: of lists of rule numbers, and of lists of calls.
   pub rests : (c : List ℕ) → length c ≡ P .states → Rests P L w c (after P c) (meetings P c) (layered P L c)
   pub calls-rest : (c : List ℕ) → length c ≡ P .states → CallsRest P L w c (reply P L) (lastCounts P L c) (reported P L c)
@@ -41,6 +45,9 @@ pub record OfLadder (P : Protocol) (L : Layers) (w : ℕ → ℕ → ℕ) : Type
 pub record Theorems (P : Protocol) : Type 0 where
   -- The definitions are the paper's and document 01's; the leaf rule on biased weights is that on signed ones.
   pub as-published : WellFormed P → (c : List ℕ) → length c ≡ P .states → AsPublished P c
+  pub layers-are : WellFormed P → {L : Layers} → OrderedPartition P L → (w : ℕ → ℕ → ℕ) (c : List ℕ) → LayersAre P L w c
+  pub tree-stands : (H : Assumption) (T : Tree) → (treeAnswer P H T ≡ next (T .nodes)) ↔ TreeStands P H T
+  pub tree-fails : (H : Assumption) (T : Tree) (n k : ℕ) → (treeAnswer P H T ≡ refused n k) ↔ TreeFails P H T n k
   pub leaf-is : (F : Facts) (w : ℕ → ℕ → ℕ) → (leafCloses P F w ≡ true) ↔ LeafRule P F (λ k s. signed (w k s))
   pub start-exact : StartExact P
   pub handover-exact : WellFormed P → (L : Layers) → HandoverExact P L

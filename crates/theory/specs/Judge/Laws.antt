@@ -70,6 +70,10 @@ judge-append refuse x [] vs = refl
 judge-append refuse x (t ∷ us) vs =
     by-test (ltb (place t) (t .places)) (λ l. rw (l, judge)) (λ l. rw (l, judge) (judge-append refuse x us vs))
 
+pub passes-front : (us vs : List Test) → Passes (us ++ vs) → Passes us
+passes-front [] vs p = tt
+passes-front (t ∷ us) vs p = (p .0, passes-front us vs (p .1))
+
 -- What a refusal means, where answers tell number and place.
 module _ {A : Type 0} (refuse : ℕ → ℕ → A) (x : A) (tells : (n k m j : ℕ) → refuse n k ≡ refuse m j → (n ≡ m) × (k ≡ j)) where
   -- From a refusal to the first test that fits, or to what follows the tests.
@@ -125,47 +129,43 @@ fits-refuses refuse x ts n k f =
     ∙ sym (passed refuse x (refuse n k) (f .earlier) (t ∷ f .later) (f .earlier-pass)
     (judge-hit refuse x (refuse n k) t (f .later) k at (f .within) (ap (λ i. refuse i k) (sym (f .number-is)))))
 
--- A test of the list whose number no other test before or behind it has: the refusal by that number is its.
+-- The first that fits is the first test, at its lowest bad place, or one behind it, where the first test passes.
 module _ (t : Test) (ts : List Test) (n k : ℕ) where
-  pub fits-behind : (t .number ≡ n → ⊥) → FirstFits (t ∷ ts) n k → FirstFits ts n k
-  fits-behind other f = go (f .earlier) (f .in-order) (f .earlier-pass)
-    where
-      go : (us : List Test) → t ∷ ts ≡ us ++ f .test ∷ f .later → Passes us → FirstFits ts n k
-      go [] e p = let h : t ≡ f .test = cc in absurd (other (ap (λ (x : Test). x .number) h ∙ f .number-is))
-      go (u ∷ us) e p =
-          let rest : ts ≡ us ++ f .test ∷ f .later = cc in
-          record {
-            earlier = us;
-            test = f .test;
-            later = f .later;
-            in-order = rest;
-            earlier-pass = p .1;
-            number-is = f .number-is;
-            within = f .within;
-            fits = f .fits;
-            lowest-place = f .lowest-place;
-          }
+  abbrev pub FitsHere : Type 0
+  FitsHere = (t .number ≡ n) × (k < t .places) × (t .bad k ≡ true) × Clear (t .bad) k
 
-  pub fits-here : (FirstFits ts n k → ⊥) → FirstFits (t ∷ ts) n k → (k < t .places) × (t .bad k ≡ true) × Clear (t .bad) k
-  fits-here none f = go (f .earlier) (f .in-order) (f .earlier-pass)
+  pub fits-split : FirstFits (t ∷ ts) n k → FitsHere ⊎ (Clear (t .bad) (t .places) × FirstFits ts n k)
+  fits-split f = go (f .earlier) (f .in-order) (f .earlier-pass)
     where
-      go : (us : List Test) → t ∷ ts ≡ us ++ f .test ∷ f .later → Passes us → (k < t .places) × (t .bad k ≡ true) × Clear (t .bad) k
+      go : (us : List Test) → t ∷ ts ≡ us ++ f .test ∷ f .later → Passes us → FitsHere ⊎ (Clear (t .bad) (t .places) × FirstFits ts n k)
       go [] e p =
           let h : f .test ≡ t = cc in
-          subst (λ (x : Test). (k < x .places) × (x .bad k ≡ true) × Clear (x .bad) k) h (f .within, f .fits, f .lowest-place)
+          inl (subst (λ (x : Test). (x .number ≡ n) × (k < x .places) × (x .bad k ≡ true) × Clear (x .bad) k) h
+          (f .number-is, f .within, f .fits, f .lowest-place))
       go (u ∷ us) e p =
+          let h : u ≡ t = cc in
           let rest : ts ≡ us ++ f .test ∷ f .later = cc in
-          absurd (none (record {
-            earlier = us;
-            test = f .test;
-            later = f .later;
-            in-order = rest;
-            earlier-pass = p .1;
-            number-is = f .number-is;
-            within = f .within;
-            fits = f .fits;
-            lowest-place = f .lowest-place;
-          }))
+          inr (
+            subst (λ (x : Test). Clear (x .bad) (x .places)) h (p .0),
+            record {
+              earlier = us;
+              test = f .test;
+              later = f .later;
+              in-order = rest;
+              earlier-pass = p .1;
+              number-is = f .number-is;
+              within = f .within;
+              fits = f .fits;
+              lowest-place = f .lowest-place;
+            },
+          )
+
+  -- By the number.
+  pub fits-behind : (t .number ≡ n → ⊥) → FirstFits (t ∷ ts) n k → FirstFits ts n k
+  fits-behind other f = ⊎-elim (λ h. absurd (other (h .0))) (λ s. s .1) (fits-split f)
+
+  pub fits-here : (FirstFits ts n k → ⊥) → FirstFits (t ∷ ts) n k → FitsHere
+  fits-here none f = ⊎-elim (λ h. h) (λ s. absurd (none (s .1))) (fits-split f)
 
 pub fits-none : (n k : ℕ) → FirstFits [] n k → ⊥
 fits-none n k f = go (f .earlier) (f .in-order)

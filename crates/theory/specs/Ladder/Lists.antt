@@ -22,10 +22,10 @@ use Rattle.theory.specs.Ladder.Rank.{weigh-least, weigh-spread, weigh-fa
 
 module _ (P : Protocol) (L : Layers) where
   -- A meeting by a rule of the lowest layer that has an enabled rule.
-  abbrev Lowest : List ℕ → ℕ → Type 0
+  abbrev pub Lowest : List ℕ → ℕ → Type 0
   Lowest c r = L .of r ≡ lowest P L c
 
-  layered-each : (c rs : List ℕ) → layered P L c rs ≡ true → EachMeeting P Lowest c rs
+  pub layered-each : (c rs : List ℕ) → layered P L c rs ≡ true → EachMeeting P Lowest c rs
   unfolding layered
   layered-each c [] h = tt
   layered-each c (r ∷ rs) h =

@@ -9,14 +9,14 @@ use lib.ListN.{length}
 use lib.Dec.{ltb, eqb}
 use borrow.Author.Tests.{lt-ltb, le-ltb, eqb-true, eq-eqb}
 use Rattle.theory.specs.Bool.{bit}
-use Rattle.theory.specs.Bool.Laws.{by-test, and-intro, and-elim, imp-intro}
-use Rattle.theory.specs.Below.Laws.{any-elim, first-passes, first-min}
-use Rattle.theory.specs.Protocol.{Protocol, WellFormed, enabled, fire, terminal, fires, tried, after, meetings}
+use Rattle.theory.specs.Bool.Laws.{by-test, not-both, is-false, and-intro, and-elim, imp-intro}
+use Rattle.theory.specs.Below.Laws.{any-elim, first-passes, first-lowest, first-min}
+use Rattle.theory.specs.Protocol.{Protocol, WellFormed, enabled, fire, terminal, fires, tried, after, meetings, EachTried}
 use Rattle.theory.specs.Protocol.Lists.{tried-fires, rule-fires, length-after, size-after, after-append, meetings-append}
 use Rattle.theory.specs.Ladder.{Layers, OrderedPartition, enabledIn, active, lowest, layered}
-use Rattle.theory.specs.Ladder.Active.{enabledIn-elim, lowest-active, not-terminal-lowest}
+use Rattle.theory.specs.Ladder.Active.{enabledIn-elim, lowest-quiet, lowest-active, not-terminal-lowest}
 use Rattle.theory.specs.Machine.Lists.{lastCounts, reported}
-use Rattle.theory.specs.Machine.{Call, step, run, stepped, refused, isRefused, meetingsOf, isSized, isWithin, admitted, admit, chosen}
+use Rattle.theory.specs.Machine.{Call, step, run, stepped, refused, isRefused, meetingsOf, isSized, isWithin, admitted, admit, chosen, Uses}
 use Rattle.theory.specs.Machine.{runNumbers, stepReply, runReply, reply, adds, countsAfter, numbersOf}
 
 module _ (P : Protocol) where
@@ -128,6 +128,7 @@ module _ (P : Protocol) (L : Layers) where
     pub all-meet : meetings P c rs ≡ length rs
     pub kept : length rs ≤ limit
     pub short : length rs < limit → terminal P (after P c rs) ≡ true
+    pub uses : EachTried P (Uses P L) c rs
 
   -- Counts that pass do so after every list of calls.
   pub admitted-last : WellFormed P → (c : List ℕ) (xs : List Call) → admitted P c ≡ true → admitted P (lastCounts P L c xs) ≡ true
@@ -150,12 +151,24 @@ module _ (P : Protocol) {L : Layers} (part : OrderedPartition P L) where
       let s = enabledIn-elim P L c (lowest P L c) (chosen P L c) (first-passes _ _ below) in
       (rule-fires P c (chosen P L c) below (s .1), s .0)
 
+  -- It is what document 01 says that a run uses.
+  chosen-used : (c : List ℕ) → terminal P c ≡ false → Uses P L c (chosen P L c)
+  unfolding chosen enabledIn
+  chosen-used c t =
+      let m = chosen-fires c t in
+      record {
+        fires-there = m .0;
+        lowest-layer = rw (m .1) (lowest-quiet P L c);
+        lowest-number = λ k l e.
+            is-false _ (λ on. not-both (and-intro _ _ (eq-eqb _ _ (e ∙ m .1)) on) (first-lowest (P .rules) (enabledIn P L c (lowest P L c)) k l));
+      }
+
   pub runNumbers-is : (limit : ℕ) (c : List ℕ) → RunList P L limit c (runNumbers P L limit c)
   unfolding runNumbers layered meetings after
-  runNumbers-is zero c = record { is-layered = refl; all-meet = refl; kept = omega arith; short = λ l. absurd (omega arith) }
+  runNumbers-is zero c = record { is-layered = refl; all-meet = refl; kept = omega arith; short = λ l. absurd (omega arith); uses = tt }
   runNumbers-is (suc limit) c =
       by-test (terminal P c)
-      (λ e. rw (e, runNumbers) (record { is-layered = refl; all-meet = refl; kept = omega arith; short = λ l. e }))
+      (λ e. rw (e, runNumbers) (record { is-layered = refl; all-meet = refl; kept = omega arith; short = λ l. e; uses = tt }))
       (λ e.
       let r = chosen P L c in
       let rs = runNumbers P L limit (fire P c r) in
@@ -167,6 +180,7 @@ module _ (P : Protocol) {L : Layers} (part : OrderedPartition P L) where
         all-meet = omega (arith, ap bit (m .0), ap (λ d. meetings P d rs) to, ih .all-meet);
         kept = omega (arith, ih .kept);
         short = λ l. ap (λ d. terminal P (after P d rs)) to ∙ ih .short (omega arith);
+        uses = (chosen-used c e, rw to (ih .uses));
       }))
 
   -- ---- What calls report

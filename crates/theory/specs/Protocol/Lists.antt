@@ -5,6 +5,7 @@ use mathlib.Core.List.{List, [], _∷_, _++_}
 use Prim.Native.Nat.{ℕ, _+_, _≤_, _<_}
 use native.Mathlib.Omega.{arith}
 use lib.ListN.{length}
+use lib.Dec.{ltb}
 use borrow.Author.Tests.{ltb-true, lt-ltb}
 use Rattle.theory.specs.Bool.{bit}
 use Rattle.theory.specs.Bool.Laws.{by-test, not-both, and-elim, and-intro}
@@ -25,6 +26,10 @@ module _ (P : Protocol) where
   pub meeting : (c : List ℕ) (r : ℕ) → length c ≡ P .states → fires P c r ≡ true → Meeting P c r
   unfolding fires
   meeting c r l e = let s = and-elim _ _ e in record { sized = l; rule = ltb-true _ _ (s .0); on = s .1 }
+
+  pub fires-rule : (c : List ℕ) (r : ℕ) → fires P c r ≡ true → (r < P .rules) × (enabled P c r ≡ true)
+  unfolding fires
+  fires-rule c r e = let s = and-elim (ltb r (P .rules)) (enabled P c r) e in (ltb-true _ _ (s .0), s .1)
 
   pub rule-fires : (c : List ℕ) (r : ℕ) → r < P .rules → enabled P c r ≡ true → fires P c r ≡ true
   unfolding fires

@@ -24,7 +24,7 @@ use Rattle.theory.specs.Tree.{treeAnswer}
 use Rattle.theory.specs.Potential.{countIn}
 use Rattle.theory.specs.Potential.Laws.{trap-empty, siphon-empty}
 
-by-answer : {X : Type 0} (x : Walked) → ((j : ℕ) → x ≡ next j → X) → ((n j : ℕ) → x ≡ refused n j → X) → X
+pub by-answer : {X : Type 0} (x : Walked) → ((j : ℕ) → x ≡ next j → X) → ((n j : ℕ) → x ≡ refused n j → X) → X
 by-answer (next j) f g = f j refl
 by-answer (refused n j) f g = g n j refl
 

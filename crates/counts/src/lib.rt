@@ -14,7 +14,7 @@ ghost use Rattle.counts.specs.Code.{countsFault, pairEnabled, isOccupied
 use format::Sizes;
 
 // The count of state s, 0 past the end.
-pub fn count(counts: &[u32], s: usize) -> u32
+fn count(counts: &[u32], s: usize) -> u32
     ensures { λ n. ⌜ n ≡ getD (now (counts .entry)) s 0 ⌝ }
 {
     if s < counts.len() {

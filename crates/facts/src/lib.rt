@@ -21,10 +21,16 @@ impl Facts {
     // The greatest depth of a tree.
     pub const DEPTH: u16 = 40;
 
-    // The greatest number of states, and of rules.
+    // The greatest numbers of states, rules, layers, nodes and leaves.
     pub const STATES: u16 = 64;
 
     pub const RULES: u16 = 256;
+
+    pub const LAYERS: u16 = 16;
+
+    pub const NODES: u16 = 2048;
+
+    pub const LEAVES: u16 = 128;
 
     // How many words the rules of a run take.
     pub const WORDS: usize = 4;

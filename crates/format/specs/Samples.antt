@@ -1,9 +1,11 @@
 -- Two dockets of document 01, and the names that computed cases of bytes unfold. In a docket there is one row for the
 -- header, one each for states, rules and layers, one for each node, one for the leaf.
+use mathlib.Core.Path.{_≡_, refl}
 use mathlib.Core.List.{List, [], _∷_}
 use Prim.Native.Nat.{ℕ}
 use Rattle.theory.specs.Unfold.{bounds}
 use Rattle.format.specs.Bytes.{le16, le32, le64}
+use Rattle.format.specs.Format.{headerOf, sectionsOf, endWeight, nodeKind, nodeParty, nodeArgument, nodeSet}
 
 -- Numbers in bytes, and tests and sums below a bound.
 unfoldable pub reading : ℕ
@@ -51,3 +53,21 @@ majority =
     ∷ 1 ∷ 2 ∷ 0 ∷ 0 ∷ 0 ∷ 0 ∷ 0 ∷ 0 ∷ 0 ∷ 0 ∷ 0 ∷ 0
     ∷ 1 ∷ 0 ∷ 255 ∷ 255 ∷ 0 ∷ 0 ∷ 0 ∷ 0 ∷ 255 ∷ 255 ∷ 1 ∷ 0 ∷ 0 ∷ 0 ∷ 0 ∷ 0
     ∷ []
+
+-- ---- Readers
+
+-- A node with argument 258 and a set in its upper half: the higher bytes count.
+abbrev high : List ℕ
+high = 4 ∷ 2 ∷ 2 ∷ 1 ∷ 0 ∷ 0 ∷ 0 ∷ 0 ∷ 1 ∷ 0 ∷ 0 ∷ 128 ∷ []
+
+node-read : nodeKind high 0 ∷ nodeParty high 0 ∷ nodeArgument high 0 ∷ nodeSet high 0 ∷ [] ≡ 4 ∷ 2 ∷ 258 ∷ 9223372041149743104 ∷ []
+unfolding reading
+node-read = refl
+
+-- The leaf weights of majority: 1 and -1 at end 1, -1 and 1 at end 2, with the bias. Past the section they read as 0.
+abbrev weight : ℕ → ℕ → ℕ → ℕ
+weight l e s = let h = headerOf majority in endWeight (h .sizes) (sectionsOf majority h .leaves) l e s
+
+weights-read : weight 0 0 0 ∷ weight 0 0 1 ∷ weight 0 1 0 ∷ weight 0 1 1 ∷ weight 1 0 0 ∷ [] ≡ 10001 ∷ 9999 ∷ 9999 ∷ 10001 ∷ 10000 ∷ []
+unfolding reading
+weights-read = refl

@@ -58,7 +58,7 @@ fn wide(x: u8) -> usize
 }
 
 // The byte at k.
-pub fn byte(b: &[u8], k: usize) -> usize
+fn byte(b: &[u8], k: usize) -> usize
     ensures { λ r. ⌜ Value 256 (getD (now (b .entry)) k 0) r ⌝ }
 {
     if k < b.len() {
@@ -68,7 +68,7 @@ pub fn byte(b: &[u8], k: usize) -> usize
 }
 
 // The 16-bit number at k.
-pub fn read16(b: &[u8], k: usize) -> u16
+fn read16(b: &[u8], k: usize) -> u16
     ensures { λ r. ⌜ r ≡ le16 (now (b .entry)) k ⌝ }
 {
     let len = b.len();
@@ -95,7 +95,7 @@ fn read_halves(b: &[u8], k: usize) -> u32
 }
 
 // The 32-bit number at k. Where all four bytes are there, they are read at once.
-pub fn read32(b: &[u8], k: usize) -> u32
+fn read32(b: &[u8], k: usize) -> u32
     ensures { λ r. ⌜ r ≡ le32 (now (b .entry)) k ⌝ }
 {
     let len = b.len();
@@ -111,7 +111,7 @@ pub fn read32(b: &[u8], k: usize) -> u32
 }
 
 // The 64-bit number at k.
-pub fn read64(b: &[u8], k: usize) -> u64
+fn read64(b: &[u8], k: usize) -> u64
     ensures { λ r. ⌜ r ≡ le64 (now (b .entry)) k ⌝ }
 {
     if k < b.len() {
@@ -123,7 +123,7 @@ pub fn read64(b: &[u8], k: usize) -> u64
 }
 
 // The n bytes from byte k on, or as many as there are.
-pub fn section(b: &[u8], k: usize, n: usize) -> &[u8]
+fn section(b: &[u8], k: usize, n: usize) -> &[u8]
     ensures { λ r. ⌜ now r ≡ sectionOf (now (b .entry)) k n ⌝ }
 {
     let len = b.len();

@@ -1,11 +1,11 @@
 -- Leaves and what test 11 and the leaf rule say of them, by computation.
 use mathlib.Core.Path.{_≡_, refl}
 use mathlib.Core.Bool.{Bool, true, false}
-use mathlib.Core.List.{List, [], _∷_}
+use mathlib.Core.List.{List, [], _∷_, _++_}
 use Prim.Native.Nat.{ℕ}
 use lib.Dec.{eqb, ltb}
 use lib.ListN.{set}
-use Rattle.theory.specs.Facts.{Facts, withAbsent, withPresent}
+use Rattle.theory.specs.Facts.{Facts, withAbsent, withPresent, withAtMostOne}
 use Rattle.theory.specs.Leaf.{leafCloses}
 use Rattle.theory.specs.Unfold.{closing}
 use Rattle.format.specs.Samples.{reading}
@@ -45,3 +45,30 @@ last a b = badLeaf sizes (set (set leaf 14 a) 15 b) 0
 samples-limit : last 16 39 ∷ last 17 39 ∷ last 240 216 ∷ last 239 216 ∷ [] ≡ false ∷ true ∷ false ∷ true ∷ []
 unfolding badLeaf reading
 samples-limit = refl
+
+-- Of two leaves the second is bad: a weight of 10,001 there is not seen at leaf 0.
+abbrev second : ℕ → Bool
+second l = badLeaf sizes (leaf ++ set (set leaf 14 17) 15 39) l
+
+samples-second : second 0 ∷ second 1 ∷ [] ≡ false ∷ true ∷ []
+unfolding badLeaf reading
+samples-second = refl
+
+-- Weights of -10,000 at both ends, for every state: y1 + y2 is -20,000. Where all states are present at the start and hold
+-- at most one agent at the ends, the upper sum is -80,000 and the lower sum, of eight weights, the same, so the leaf does
+-- not close; where one of them is absent at an end, it does.
+abbrev low : List ℕ → List ℕ
+low rest = 240 ∷ 216 ∷ rest
+
+abbrev lowest : List ℕ
+lowest = low (low (low (low (low (low (low (low [])))))))
+
+abbrev all : ℕ → Bool
+all s = ltb s 4
+
+abbrev single : Facts
+single = withAtMostOne (withAtMostOne (withPresent (freshOf 4 all) 0 all) 1 all) 2 all
+
+samples-lowest : closes single lowest ∷ closes (withAbsent single 2 (eqb 3)) lowest ∷ [] ≡ false ∷ true ∷ []
+unfolding closing reading freshOf
+samples-lowest = refl

@@ -1,10 +1,11 @@
 -- Dockets and what tests 1 to 8 say of them, by computation.
 use mathlib.Core.Path.{_≡_, refl}
-use mathlib.Core.List.{List, [], _∷_}
+use mathlib.Core.List.{List, [], _∷_, _++_}
 use Prim.Native.Nat.{ℕ}
 use lib.ListN.{take, set}
 use Rattle.format.specs.Samples.{reading, broadcast, majority}
-use Rattle.shape.specs.Shape.{badState, repeats, badLayer, headerShape, shapeOf}
+use Rattle.theory.specs.Below.{firstBelow}
+use Rattle.shape.specs.Shape.{nth, countFaults, badState, repeats, badLayer, headerShape, shapeOf}
 use Rattle.shape.specs.declared.Shape.{Shape}
 use Rattle.shape.specs.declared.Shape.the-variants.{Sound, Refused}
 
@@ -26,6 +27,7 @@ samples =
     ∷ (take 23 broadcast, (1, 0))
     ∷ ([], (1, 0))
     ∷ (set broadcast 0 2, (2, 0))
+    ∷ (set (set broadcast 0 2) 2 1, (2, 0))
     ∷ (set broadcast 2 1, (3, 0))
     ∷ (set broadcast 2 65, (3, 0))
     ∷ (set broadcast 5 2, (3, 1))
@@ -49,11 +51,14 @@ samples =
     ∷ (set broadcast 27 0, (0, 0))
     ∷ (set (set broadcast 26 1) 27 0, (6, 0))
     ∷ (set broadcast 28 0, (6, 0))
+    ∷ (set broadcast 29 0, (6, 0))
     ∷ (set broadcast 30 1, (6, 0))
     ∷ (set (set (set broadcast 31 64) 32 66) 33 15, (0, 0))
     ∷ (set (set (set broadcast 31 65) 32 66) 33 15, (8, 0))
     ∷ (majority, (0, 0))
     ∷ (set majority 43 0, (7, 3))
+    ∷ (set (set majority 34 1) 47 2, (6, 3))
+    ∷ (set (set majority 33 0) 34 1, (7, 1))
     ∷ (set (set majority 42 0) 47 0, (8, 1))
     ∷ (set majority 78 16, (8, 1))
     ∷ []
@@ -69,3 +74,21 @@ expected (c ∷ cs) = c .1 ∷ expected cs
 samples-right : answers samples ≡ expected samples
 unfolding shaping
 samples-right = refl
+
+-- ---- Test 3 at its limits
+
+-- The first count outside its limits, 5 where there is none.
+abbrev counted : ℕ → ℕ → ℕ → ℕ → ℕ → ℕ
+counted s r l n k =
+    firstBelow 5 (nth (countFaults (record { version = 1; states = s; rules = r; layers = l; nodes = n; leaves = k })))
+
+-- All counts at their greatest and at their least pass; each is refused one further on.
+limits-right : counted 64 256 16 2048 128 ∷ counted 2 0 0 1 0 ∷ counted 2 1 1 1 0 ∷ []
+    ++ counted 65 256 16 2048 128 ∷ counted 1 0 0 1 0 ∷ []
+    ++ counted 64 257 16 2048 128 ∷ counted 64 257 0 2048 128 ∷ []
+    ++ counted 64 256 17 2048 128 ∷ counted 64 1 0 2048 128 ∷ counted 64 0 1 2048 128 ∷ []
+    ++ counted 64 256 16 2049 128 ∷ counted 64 256 16 0 128 ∷ []
+    ++ counted 64 256 16 2048 129 ∷ []
+    ≡ 5 ∷ 5 ∷ 5 ∷ 0 ∷ 0 ∷ 1 ∷ 1 ∷ 2 ∷ 2 ∷ 2 ∷ 3 ∷ 3 ∷ 4 ∷ []
+unfolding reading
+limits-right = refl

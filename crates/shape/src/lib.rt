@@ -74,15 +74,17 @@ fn first_true(a: bool, b: bool, c: bool, d: bool, e: bool, f: bool) -> u32
 }
 
 // Test 3: the first count outside its limits, or 5.
-pub fn count_fault(z: Sizes) -> u32
+fn count_fault(z: Sizes) -> u32
     ensures { λ r. ⌜ r ≡ firstBelow 5 (nth (countFaults z)) ⌝ }
 {
     first_true(
         (z.states < 2) | (Facts::STATES < z.states),
         Facts::RULES < z.rules,
-        (16 < z.layers) | (z.layers != 0) & (z.rules == 0) | (z.layers == 0) & (z.rules != 0),
-        (z.nodes < 1) | (2048 < z.nodes),
-        128 < z.leaves,
+        (Facts::LAYERS < z.layers)
+            | (z.layers != 0) & (z.rules == 0)
+            | (z.layers == 0) & (z.rules != 0),
+        (z.nodes < 1) | (Facts::NODES < z.nodes),
+        Facts::LEAVES < z.leaves,
         true,
     )
 }
@@ -271,7 +273,7 @@ fn layer_fault(rules: &[u8], layers: &[u8], z: Sizes) -> u16
 }
 
 // Tests 5 to 8.
-pub fn section_tests(states: &[u8], rules: &[u8], layers: &[u8], z: Sizes) -> Tested
+fn section_tests(states: &[u8], rules: &[u8], layers: &[u8], z: Sizes) -> Tested
     ensures { λ r. ⌜ r ≡ testedOf z (now (states .entry)) (now (rules .entry)) (now (layers .entry)) ⌝ }
 {
     let place = state_fault(states, z);

@@ -96,14 +96,7 @@ fn root_facts(states: &[u8], rules: &[u8], z: Sizes) -> Facts
 }
 
 // The whole tree, which refutes what the aim assumes: accepted (Next), or the first refusal. A node left over is refused.
-pub fn walk_tree(
-    states: &[u8],
-    rules: &[u8],
-    nodes: &[u8],
-    leaves: &[u8],
-    z: Sizes,
-    aim: Aim,
-) -> Walk
+fn walk_tree(states: &[u8], rules: &[u8], nodes: &[u8], leaves: &[u8], z: Sizes, aim: Aim) -> Walk
     requires { ⌜ SoundRules z (now rules) ⌝ }
     requires { ⌜ AimFits z (now states) aim ⌝ }
     ensures { λ w. ⌜ walkedOf w ≡ treeAnswer (protocolOf z (now (states .entry)) (now (rules .entry)))

@@ -1,7 +1,7 @@
 /*
  * Checks a docket, runs its vote on counts of workers and reads the verdict, all through docket.h.
  *
- *     cc -std=c99 -Iinclude examples/page_reader.c target/staticlib/libcapi.a -o page_reader
+ *     cc -std=c99 -Iinclude examples/page_reader.c target/staticlib/libdocket.a -o page_reader
  *     ./page_reader DOCKET COUNT...          one count for each state; missing counts at the end are 0
  *
  * Exit status: 0 the verdict was read, 1 something was refused, 2 bad usage or a file that cannot be read.
@@ -16,8 +16,7 @@ enum {
     DONE = 0,
     REFUSED = 1,
     TROUBLE = 2,
-    MOST_BYTES = 65536,   /* one more than a docket can have, so that a longer file is refused as too long */
-    MOST_STATES = 64,
+    MOST_BYTES = DOCKET_MAX_BYTES + 1,   /* so that a longer file is refused as too long */
     STEPS_AT_ONCE = 100000
 };
 
@@ -27,7 +26,7 @@ struct docket {
 };
 
 struct group {
-    uint32_t counts[MOST_STATES];
+    uint32_t counts[DOCKET_MAX_STATES];
     size_t len;
 };
 
@@ -67,7 +66,7 @@ static int read_count(const char *text, uint32_t *count)
 
 static int say_refused(const char *what, uint32_t number, uint32_t place)
 {
-    printf("%s: refused %" PRIu32 " %" PRIu32 "\n", what, number, place);
+    printf("%s: refused %" PRIu32 " %" PRIu32 ": %s\n", what, number, place, docket_refusal_text(number));
     return REFUSED;
 }
 
@@ -143,7 +142,7 @@ int main(int argc, char **argv)
         return TROUBLE;
     }
     for (int i = 2; i < argc; i++) {
-        if (group.len == MOST_STATES)
+        if (group.len == DOCKET_MAX_STATES)
             return trouble(argv[i], "more counts than a docket has states");
         if (!read_count(argv[i], &group.counts[group.len]))
             return trouble(argv[i], "not a count");

@@ -1,41 +1,59 @@
 /*
- * Checks dockets and runs their tables on counts of workers. Link with the static library of crate capi:
+ * Checks dockets and runs their tables on counts of workers. C99 or later, or C++; x86-64. Link with the static library:
  *
- *     rt staticlib capi          (writes target/staticlib/libcapi.a)
- *     cc -Iinclude reader.c target/staticlib/libcapi.a          (x86-64)
+ *     tools/library              (proves the functions and writes target/staticlib/libdocket.a)
+ *     cc -Iinclude reader.c target/staticlib/libdocket.a
  *
- * Call docket_check first, and use the table only where it returns 0. The other functions make only tests 1 to 8, so
- * they work on a docket that docket_check refuses too, and such a table may never come to rest. They make these tests
- * in every call: to make many meetings, use docket_run rather than docket_step again and again.
+ * Call docket_check or docket_figures first, and use the table only where it returns 0. The calls of the machine (all
+ * functions with counts) make only tests 1 to 8, so they work on a docket that docket_check refuses too, and such a
+ * table may never come to rest. They make these tests in every call: to make many meetings, use docket_run rather than
+ * docket_step again and again.
  *
- * A docket is a pointer to its bytes and their number; any bytes may be given. Counts are one 32-bit number for each
- * state of the docket, in order, and their number. No pointer is null, also where a length is 0, and no two of them
- * overlap. The library keeps nothing between calls, allocates nothing and writes only where it says here.
+ * What a caller hands over. A docket is a pointer to its bytes and their number; any bytes may be given, at any address.
+ * Counts are one uint32_t for each state of the docket, in order, and their number. Counts, answers and figures are
+ * aligned as their types are. No pointer is null, also where a length is 0, and no two of them overlap.
  *
- * Each function returns 0 where it did its work, else a refusal with a number and a place: the first number in the order
- * of the table that fits, and the lowest place that fits it. docket_check returns the number times 65,536 plus the
- * place; the others, whose place can be any 32-bit rule number, the number times 2 to the power 32 plus the place. So
- * each has its own pair of functions below that take a refusal apart. A refused call leaves the counts and the values
- * behind the other pointers as they were. Those values are read, so set them before the call.
+ * What a function does. It writes only where it says here; it keeps nothing between calls and allocates nothing. So the
+ * functions may be called from several threads at once, each with its own counts and answers. They use about 30 KB of
+ * stack where a tree is 40 deep, else less; DOCKET_STACK bytes are enough. The library needs memcpy and memset, and no
+ * other function from elsewhere.
  *
- *   number  place                 when
- *   1       0                     file under 24 bytes, or length unlike the header's
- *   2       0                     version not 1
- *   3       0 to 4                a count outside its limits: states, rules, layers, nodes, leaves
- *   4       0 to 5                an offset, or the total length (5), not where it belongs
- *   5       state, or S           other bits set; S: no input state at all
- *   6       rule                  state too large, pair out of order, pairs equal, or layer too large
+ * What a function returns: 0 where it did its work, else a refusal, which has a number and a place. The tests are made
+ * in the order of the table, from above, each over all its places before the next begins: the first test that fails
+ * gives the number, and the lowest place at which it fails the place. Tests 12 and 13 alone are made together, node by
+ * node in the order of the file: at each node 12 before 13, and the first node at which one fails ends the check. So a
+ * 13 at an earlier node comes before a 12 at a later one.
+ * docket_check and docket_figures return the number times 65,536 plus the place; the others, whose place can be any
+ * 32-bit rule number, the number times 2 to the power 32 plus the place. So each has its own pair of functions below
+ * that take a refusal apart. A refused call changes no counts, and neither reads nor writes behind an answer pointer.
+ *
+ * S is the number of states, R of rules, L of layers, N of nodes and K of leaves, as the header of the docket has them.
+ * Numbers of states, rules, layers, leaves and nodes begin at 0. docs/FORMAT.md has the whole format.
+ *
+ *   number  place                 refused where
+ *   1       0                     the file has fewer than 24 bytes, or another length than its header says
+ *   2       0                     the version is not 1
+ *   3       0 S, 1 R, 2 L,        that count is outside its limits: S 2 to 64, R 0 to 256, L 0 to 16, N 1 to 2,048,
+ *           3 N, 4 K              K 0 to 128; place 2 also where L is 0 and R is not, or R is 0 and L is not
+ *   4       0 to 4: a section;    the section (states, rules, layers, nodes, leaves) does not begin where the one
+ *           5: the total length   before it ends, the first at byte 24; 5: the last does not end at the total length
+ *   5       state, or S           a bit other than 0 and 1 is set in the state's byte; S: no state is an input
+ *   6       rule                  a state is S or more, p > q, p' > q', the two pairs are equal, or the layer is L or more
  *   7       rule                  an earlier rule has the same before pair
- *   8       layer                 no rule in it, or a weight too large
- *   9       rule                  lowering fails          (check only, as are 10 to 13)
- *   10      rule                  handover fails
- *   11      leaf                  a leaf weight outside its limits
- *   12      node                  bad field, too deep, node left over; N: nodes ran out
- *   13      node                  its ground does not hold
- *   20      0                     counts not one for each state
- *   21      0                     size not 2 to 1,000,000
- *   22      state                 start test: workers in a state that is no input
- *   23      rule number given     step or can-act: no such rule
+ *   8       layer                 no rule is in it, or a weight is over 1,000,000
+ *   9       rule                  the weights of its layer do not fall: lowering (FORMAT.md, 4.3)
+ *   10      rule                  it can make a lower layer act again: handover (FORMAT.md, 4.3)
+ *   11      leaf                  a weight is outside -10,000 to 10,000
+ *   12      node, or N            a bad field, a depth over 40 (the root has depth 1), or a node left over;
+ *                                 N: the nodes ran out (FORMAT.md, 4.4)
+ *   13      node                  its ground does not hold (FORMAT.md, 4.4)
+ *
+ * Calls of the machine make tests 1 to 8, then those of the following that apply, in this order:
+ *
+ *   20      0                     the counts are not S numbers
+ *   21      0                     their sum is not 2 to 1,000,000
+ *   22      state                 start test: a state that is no input holds a worker
+ *   23      rule number given     step and can-act: it is R or more
  *   24      rule number given     step: the rule cannot act
  */
 #ifndef DOCKET_H
@@ -48,8 +66,18 @@
 extern "C" {
 #endif
 
+#define DOCKET_VERSION "0.1.0"   /* of this header and its library */
+#define DOCKET_MAX_BYTES 65535   /* a longer file is refused with 1, 0; so read at most one byte more */
+#define DOCKET_MAX_STATES 64     /* counts for every docket fit an array of so many */
+#define DOCKET_STACK 65536       /* bytes of stack that are enough for every function */
+
 /* Tests 1 to 13: 0 where the docket is accepted. */
 uint64_t docket_check(const uint8_t *docket, size_t docket_len);
+
+/* The same check. Where it returns 0, figures[0] to figures[5] are S R L N W M: states, rules, layers and nodes, the sum
+   of the layers' spreads, and how many states the widest set of the tree names. A vote of n workers comes to rest after
+   at most n times W meetings; n times W is at most 16,000,000,000,000. */
+uint64_t docket_figures(const uint8_t *docket, size_t docket_len, uint64_t figures[6]);
 
 /* The start test: 0 where the counts are 2 to 1,000,000 workers in input states only. */
 uint64_t docket_start_test(const uint8_t *docket, size_t docket_len, const uint32_t *counts, size_t counts_len);
@@ -70,20 +98,67 @@ uint64_t docket_verdict(const uint8_t *docket, size_t docket_len, const uint32_t
 uint64_t docket_step(const uint8_t *docket, size_t docket_len, uint32_t *counts, size_t counts_len, uint32_t rule);
 
 /* Runs the table: always the lowest rule number of the lowest layer that can act, until nothing can act or limit steps
-   are made. *steps is how many were made, *rests is 1 where nothing can act any more, else 0. */
+   are made. *steps is how many were made, *rests is 1 where nothing can act any more, else 0.
+   Call it again with the counts it left while *rests is 0. With an accepted docket a single call is enough where limit
+   is at least n times W (docket_figures); n times W can be greater than every limit, and then it takes several calls. */
 uint64_t docket_run(const uint8_t *docket, size_t docket_len, uint32_t *counts, size_t counts_len, uint32_t limit,
                     uint64_t *steps, uint64_t *rests);
 
-/* The number of states of an accepted docket: how many counts the other functions want. */
+/* The number of states of a docket that passes tests 1 to 8: how many counts the other functions want. */
 static inline size_t docket_states(const uint8_t *docket) { return docket[2] + 256u * docket[3]; }
 
-/* The number and the place of a refusal of docket_check. */
+/* The number and the place of a refusal of docket_check or docket_figures. */
 static inline uint32_t docket_check_number(uint64_t code) { return (uint32_t)(code / 65536); }
 static inline uint32_t docket_check_place(uint64_t code) { return (uint32_t)(code % 65536); }
 
 /* The number and the place of a refusal of another function. */
 static inline uint32_t docket_call_number(uint64_t code) { return (uint32_t)(code >> 32); }
 static inline uint32_t docket_call_place(uint64_t code) { return (uint32_t)code; }
+
+/* What a refusal's number means, in one sentence. */
+static inline const char *docket_refusal_text(uint32_t number)
+{
+    switch (number) {
+    case 1:
+        return "The file is too short, or its length is not the one in its header.";
+    case 2:
+        return "The version is not 1.";
+    case 3:
+        return "A count in the header is outside its limits.";
+    case 4:
+        return "A section does not begin where the one before it ends, or the total length is wrong.";
+    case 5:
+        return "A state has a bit set that must be 0, or no state is an input.";
+    case 6:
+        return "A rule has a state or a layer that does not exist, a pair out of order, or two equal pairs.";
+    case 7:
+        return "A rule has the before pair of an earlier rule.";
+    case 8:
+        return "A layer has no rule, or a weight over 1,000,000.";
+    case 9:
+        return "A rule does not lower the weights of its layer.";
+    case 10:
+        return "A rule breaks the handover: it can make a lower layer act again.";
+    case 11:
+        return "A leaf has a weight outside -10,000 to 10,000.";
+    case 12:
+        return "A node has a bad field, is too deep or is left over, or the nodes ran out.";
+    case 13:
+        return "The ground of a node does not hold.";
+    case 20:
+        return "There is not one count for each state.";
+    case 21:
+        return "The number of workers is not 2 to 1,000,000.";
+    case 22:
+        return "A state that is no input holds a worker at the start.";
+    case 23:
+        return "There is no rule of this number.";
+    case 24:
+        return "The rule cannot act.";
+    default:
+        return "There is no refusal of this number.";
+    }
+}
 
 #ifdef __cplusplus
 }

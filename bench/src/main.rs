@@ -1,5 +1,5 @@
 //! Times the proved implementation, through C, against the same methods in Rust, in one process and on the same input;
-//! and against the second implementation of `tests`, which is plain rather than fast.
+//! and against the second implementation, which is plain rather than fast.
 //!
 //!     bench            times all cases
 //!     bench WORD       times the cases whose name has the word
@@ -10,11 +10,11 @@
 
 mod baseline;
 
+use second::Docket;
 use std::hint::black_box;
 use std::time::Instant;
 use tests::calls::{self, Call};
-use tests::second::Docket;
-use tests::{make, native, second};
+use tests::{make, native};
 
 const ROUNDS: usize = 15;
 const LEAST_SECONDS: f64 = 0.004;

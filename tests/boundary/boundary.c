@@ -5,7 +5,8 @@
  *
  * The library is not instrumented, so each call is made on three kinds of copies: blocks of the heap of exactly the
  * size, for AddressSanitizer; blocks that end where a page without access begins; and blocks that begin where such a
- * page ends. Dockets of the last two kinds stand in pages that cannot be written.
+ * page ends. Dockets of the last two kinds stand in pages that cannot be written. A refused call is made once more with
+ * answers that can be neither read nor written.
  */
 #define _DEFAULT_SOURCE
 #include <inttypes.h>
@@ -20,21 +21,21 @@
 
 enum {
     HEADER = 24,
-    MOST_BYTES = 65535,                /* of a docket */
-    MOST_LENT = MOST_BYTES + 65536,    /* of what is handed over as a docket */
-    MOST_COUNTS = 65,                  /* one more than the states a docket can have */
+    MOST_LENT = DOCKET_MAX_BYTES + 65536,    /* of what is handed over as a docket */
+    MOST_COUNTS = DOCKET_MAX_STATES + 1,
     WORKERS = 1000000,
-    SHOWN = 5,                         /* failures of one file that are shown */
-    CALLS = 14
+    SHOWN = 5,                               /* failures of one file that are shown */
+    CALLS = 14,
+    FIGURES = 6
 };
 
 enum kind { HEAP, ENDS_AT_GUARD, BEGINS_AT_GUARD, KINDS };
-enum function { START_TEST, CAN_ACT, IS_STANDSTILL, VERDICT, STEP, RUN, CHECK, FUNCTIONS };
+enum function { START_TEST, CAN_ACT, IS_STANDSTILL, VERDICT, STEP, RUN, CHECK, CHECK_FIGURES, FUNCTIONS };
 enum filling { START, ZEROS, ALL_BITS, A_MILLION, FILLINGS };
 
 static const char *const names[FUNCTIONS] = {"docket_start_test", "docket_can_act", "docket_is_standstill",
                                              "docket_verdict",    "docket_step",    "docket_run",
-                                             "docket_check"};
+                                             "docket_check",      "docket_figures"};
 
 struct call {
     enum function function;
@@ -54,6 +55,12 @@ struct file {
     size_t states;
     struct call calls[CALLS];
     unsigned failures;
+};
+
+/* What the line in FILE.expect stands for: the code of docket_check, and the figures where it is 0. */
+struct expected {
+    uint64_t code;
+    uint64_t figures[FIGURES];
 };
 
 /* One docket in every kind of copy, and the answer of docket_check for it. */
@@ -79,6 +86,7 @@ struct outcome {
 
 static struct region docket_regions[KINDS];
 static struct region counts_regions[KINDS];
+static uint64_t *no_access;    /* room for answers, in a page that can be neither read nor written */
 static uint64_t calls_made[FUNCTIONS];
 static uint64_t calls_not_refused[FUNCTIONS];
 
@@ -185,6 +193,10 @@ static struct outcome try_kind(struct file *file, const struct lent *lent, const
     int may_move = code == 0 && (call->function == STEP || call->function == RUN);
     expect(file, lent, call, may_move || memcmp(counts->copy[kind], counts->before, size) == 0, "counts changed");
     expect(file, lent, call, code == 0 || (out[1] == OLD && out[3] == OLD), "a refused call wrote an answer");
+    if (code != 0) {
+        uint64_t again = make(call, lent->copy[kind], lent->len, counts->copy[kind], counts->len, no_access, no_access);
+        expect(file, lent, call, again == code, "another refusal where the answers cannot be written");
+    }
     expect(file, lent, call, out[0] == EDGE && out[2] == EDGE && out[4] == EDGE, "wrote beside an answer");
     /* The other kinds stand in pages that cannot be written. */
     if (kind == HEAP)
@@ -205,6 +217,40 @@ static uint64_t try_call(struct file *file, const struct lent *lent, const struc
         expect(file, lent, call, memcmp(counts->copy[k], counts->copy[HEAP], size) == 0, "other counts in a copy");
     }
     return heap.code;
+}
+
+/* Makes docket_figures on every kind of copies: the code of docket_check, and figures where it is 0. */
+static void try_figures(struct file *file, const struct lent *lent, uint64_t figures[FIGURES])
+{
+    enum { OLD = 77, EDGE = 99 };
+    static const struct call call = {CHECK_FIGURES, 0};
+    for (enum kind k = HEAP; k < KINDS; k++) {
+        uint64_t out[FIGURES + 2] = {EDGE, OLD, OLD, OLD, OLD, OLD, OLD, EDGE};
+        const uint64_t before[FIGURES] = {OLD, OLD, OLD, OLD, OLD, OLD};
+        uint64_t code = docket_figures(lent->copy[k], lent->len, out + 1);
+        int untouched = memcmp(out + 1, before, sizeof before) == 0;
+        calls_made[CHECK_FIGURES]++;
+        calls_not_refused[CHECK_FIGURES] += code == 0;
+        expect(file, lent, &call, code == lent->checked, "another code than that of docket_check");
+        expect(file, lent, &call, code == 0 || untouched, "a refused call wrote figures");
+        expect(file, lent, &call, out[0] == EDGE && out[FIGURES + 1] == EDGE, "wrote beside the figures");
+        if (code != 0)
+            expect(file, lent, &call, docket_figures(lent->copy[k], lent->len, no_access) == code,
+                   "another refusal where the figures cannot be written");
+        if (k == HEAP)
+            memcpy(figures, out + 1, sizeof before);
+        expect(file, lent, &call, memcmp(figures, out + 1, sizeof before) == 0, "other figures for another copy");
+    }
+}
+
+/* Whether the number of a refusal has a sentence of its own. */
+static int has_text(uint32_t number)
+{
+    const char *text = docket_refusal_text(number);
+    for (uint32_t other = 0; other < 100; other++)
+        if (other != number && strcmp(text, docket_refusal_text(other)) == 0)
+            return 0;
+    return text[0] != '\0' && text[strlen(text) - 1] == '.';
 }
 
 static uint32_t filled(const struct file *file, enum filling filling, size_t state)
@@ -235,6 +281,7 @@ static void try_counts(struct file *file, const struct lent *lent, size_t len, e
     for (size_t i = 0; i < CALLS; i++) {
         uint64_t code = try_call(file, lent, &counts, &file->calls[i]);
         expect(file, lent, &file->calls[i], follows(code, lent->checked), "not the refusal that the docket has");
+        expect(file, lent, &file->calls[i], code == 0 || has_text(docket_call_number(code)), "a refusal without a text");
     }
     free(counts.copy[HEAP]);
 }
@@ -245,23 +292,27 @@ static int length_is_wrong(const uint8_t *bytes, size_t len)
     return len < HEADER || (size_t)(bytes[22] + 256 * bytes[23]) != len;
 }
 
-/* Makes every call on one docket. Returns the answer of docket_check. */
-static uint64_t try_docket(struct file *file, const char *variant, const uint8_t *bytes, size_t len)
+/* Makes every call on one docket. Returns what docket_check and docket_figures said. */
+static struct expected try_docket(struct file *file, const char *variant, const uint8_t *bytes, size_t len)
 {
     static const struct call check = {CHECK, 0};
     const size_t lengths[] = {0, file->states - 1, file->states, file->states + 1};
     uint32_t none = 0;
     struct counts no_counts = {.len = 0, .copy = {&none, &none, &none}};
     struct lent lent;
+    struct expected said;
     lend(&lent, variant, bytes, len);
     lent.checked = try_call(file, &lent, &no_counts, &check);
+    said.code = lent.checked;
+    try_figures(file, &lent, said.figures);
+    expect(file, &lent, &check, said.code == 0 || has_text(docket_check_number(said.code)), "a refusal without a text");
     int refused_1 = lent.checked == 65536;
     expect(file, &lent, &check, refused_1 == length_is_wrong(bytes, len), "refusal 1, 0 at the wrong place");
     for (size_t i = 0; i < sizeof lengths / sizeof lengths[0]; i++)
         for (enum filling f = START; f < FILLINGS; f++)
             try_counts(file, &lent, lengths[i], f);
     free((void *)(uintptr_t)lent.copy[HEAP]);
-    return lent.checked;
+    return said;
 }
 
 static void set16(uint8_t *bytes, size_t at, size_t value)
@@ -310,30 +361,42 @@ static void try_longer(struct file *file)
     try_docket(file, "65,536 bytes more", file->bytes, file->len + 65536);
 }
 
-/* The code of docket_check that the line in FILE.expect stands for; 1, which is no code, where there is none. */
-static uint64_t expected_code(const char *docket_name)
+/* What the line in FILE.expect stands for; the code is 1, which is none, where there is no such line. */
+static struct expected expected_of(const char *docket_name)
 {
     static const char tail[] = ".docket";
+    const struct expected none = {1, {0}};
+    struct expected e = {0, {0}};
     char name[4096];
-    char line[64];
-    uint64_t number = 0, place = 0;
+    char line[128];
+    uint64_t number = 0, place = 0, *f = e.figures;
     size_t stem = strlen(docket_name) >= sizeof tail ? strlen(docket_name) - (sizeof tail - 1) : 0;
     if (stem == 0 || strcmp(docket_name + stem, tail) != 0)
-        return 1;
+        return none;
     int written = snprintf(name, sizeof name, "%.*s.expect", (int)stem, docket_name);
     if (written < 0 || (size_t)written >= sizeof name)
-        return 1;
-    FILE *f = fopen(name, "r");
-    if (f == NULL)
-        return 1;
-    int got = fgets(line, sizeof line, f) != NULL;
-    if (fclose(f) != 0 || !got)
-        return 1;
-    if (strncmp(line, "accepted ", 9) == 0)
-        return 0;
+        return none;
+    FILE *file = fopen(name, "r");
+    if (file == NULL)
+        return none;
+    int got = fgets(line, sizeof line, file) != NULL;
+    if (fclose(file) != 0 || !got)
+        return none;
+    if (sscanf(line, "accepted %" SCNu64 " %" SCNu64 " %" SCNu64 " %" SCNu64 " %" SCNu64 " %" SCNu64, &f[0], &f[1],
+               &f[2], &f[3], &f[4], &f[5]) == FIGURES)
+        return e;
     if (sscanf(line, "refused %" SCNu64 " %" SCNu64, &number, &place) != 2)
-        return 1;
-    return number * 65536 + place;
+        return none;
+    e.code = number * 65536 + place;
+    return e;
+}
+
+/* Whether the line in FILE.expect says the same; figures count only where the docket is accepted. */
+static int as_expected(const char *name, const struct expected *said)
+{
+    struct expected e = expected_of(name);
+    int figures = memcmp(e.figures, said->figures, sizeof e.figures) == 0;
+    return e.code == said->code && (e.code != 0 || figures);
 }
 
 static void list_calls(struct file *file, uint32_t rules)
@@ -354,12 +417,12 @@ static void read_file(struct file *file, const char *name)
         stop(name);
     memset(file, 0, sizeof *file);
     file->name = name;
-    file->len = fread(file->bytes, 1, MOST_BYTES, f);
+    file->len = fread(file->bytes, 1, DOCKET_MAX_BYTES, f);
     if (ferror(f) || fgetc(f) != EOF || fclose(f) != 0)
         stop(name);
     size_t states = get16(file->bytes, 2);
     size_t rules = get16(file->bytes, 4);
-    file->states = states >= 2 && states <= 64 ? states : 2;
+    file->states = states >= 2 && states <= DOCKET_MAX_STATES ? states : 2;
     list_calls(file, rules <= 256 ? (uint32_t)rules : 1);
 }
 
@@ -368,10 +431,11 @@ static int try_file(const char *name)
 {
     static struct file file;
     read_file(&file, name);
-    uint64_t checked = try_docket(&file, "whole file", file.bytes, file.len);
-    if (checked != expected_code(name)) {
+    struct expected said = try_docket(&file, "whole file", file.bytes, file.len);
+    if (!as_expected(name, &said)) {
         file.failures++;
-        printf("%s: docket_check returned %" PRIu64 ", which is not what the .expect file says\n", name, checked);
+        printf("%s: docket_check returned %" PRIu64 ", and this or the figures are not what the .expect file says\n", name,
+               said.code);
     }
     try_truncations(&file);
     try_longer(&file);
@@ -400,6 +464,10 @@ int main(int argc, char **argv)
         docket_regions[k] = new_region(MOST_LENT);
         counts_regions[k] = new_region(MOST_COUNTS * sizeof(uint32_t));
     }
+    struct region page = new_region(1);
+    if (mprotect(page.begin, page.size, PROT_NONE) != 0)
+        stop("mprotect");
+    no_access = (uint64_t *)(void *)page.begin;
     for (int i = 1; i < argc; i++)
         passed += try_file(argv[i]);
     if (!say_calls()) {

@@ -1,17 +1,46 @@
 #!/usr/bin/env bash
-# Runs boundary.c under AddressSanitizer on every docket of a folder: tests/corpus, or the one named.
-# Each docket has its .expect file beside it.
+# Tests the C boundary on every docket of a folder: tests/corpus, or the one named. Each docket has its .expect file beside it.
+# boundary.c runs under AddressSanitizer, stack.c measures the stack, and the library may need memcpy and memset alone.
 set -euo pipefail
 corpus=$(realpath -- "${1-$(dirname "$0")/../corpus}")
 cd "$(dirname "$0")/../.."
-library=target/staticlib/libcapi.a
+library=target/staticlib/libdocket.a
 work=$(mktemp -d)
 trap 'rm -rf "$work"' EXIT
+passed=0
 
 if [[ ! -f $library ]]; then
-  echo "boundary: no $library; 'rt staticlib capi' makes it" >&2
+  echo "boundary: no $library; tools/library makes it" >&2
   exit 2
 fi
-gcc -fsanitize=address,undefined -fno-sanitize-recover=all -g -O1 -Wall -Wextra -Werror -Iinclude \
+strict=(-std=c99 -Wall -Wextra -Wpedantic -Werror -Iinclude)
+
+# Runs a program whose last line is 'N passed, 0 failed', and adds N.
+add() {
+  local last
+  "$@" | tee "$work/log" | sed 's/^/  /'
+  last=$(tail -n 1 "$work/log")
+  [[ $last =~ ^([0-9]+)\ passed,\ 0\ failed$ ]]
+  passed=$((passed + BASH_REMATCH[1]))
+}
+
+needed=$(nm -u "$library" | awk '$1 == "U" { print $2 }' | sort -u | tr '\n' ' ')
+if [[ $needed != 'memcpy memset ' ]]; then
+  echo "boundary: the library needs '$needed', and docket.h says memcpy and memset"
+  exit 1
+fi
+passed=$((passed + 1))
+
+version=$(printf '#include "docket.h"\nDOCKET_VERSION\n' | cc -E -Iinclude - | tail -n 1)
+if [[ $version != "\"$(<VERSION)\"" ]]; then
+  echo "boundary: DOCKET_VERSION is $version, and VERSION $(<VERSION)"
+  exit 1
+fi
+passed=$((passed + 1))
+
+gcc "${strict[@]}" -O2 tests/boundary/stack.c "$library" -o "$work/stack"
+add "$work/stack" "$corpus"/*.docket
+gcc "${strict[@]}" -fsanitize=address,undefined -fno-sanitize-recover=all -g -O1 \
   tests/boundary/boundary.c "$library" -o "$work/boundary"
-"$work/boundary" "$corpus"/*.docket
+add "$work/boundary" "$corpus"/*.docket
+echo "$passed passed, 0 failed"

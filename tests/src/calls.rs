@@ -1,6 +1,6 @@
 //! A machine call, and what it says in the terms of `docket.h`.
 
-use crate::second::{self, Ran, Refusal, Verdict};
+use second::{Ran, Refusal, Verdict};
 
 #[derive(Clone, Copy, Debug, PartialEq, Eq)]
 pub enum Call {
@@ -74,4 +74,10 @@ pub fn check_code(docket: &[u8]) -> u64 {
         Ok(_) => 0,
         Err(refusal) => u64::from(refusal.number) * 65_536 + u64::from(refusal.place),
     }
+}
+
+/// What docket_figures says, by the second implementation: the code of the check, and the six figures where it accepts.
+pub fn figures(docket: &[u8]) -> (u64, [u64; 6]) {
+    let figures = second::check(docket).map_or([UNTOUCHED; 6], |figures| figures.numbers());
+    (check_code(docket), figures)
 }

@@ -2,7 +2,7 @@
 
 use crate::make::{node, rule};
 use crate::random::Random;
-use crate::second::{Docket, Leaf, Node};
+use second::{Docket, Leaf, Node};
 
 // ---- Changes that keep a docket accepted
 
@@ -343,7 +343,7 @@ pub fn noise(random: &mut Random) -> Vec<u8> {
 #[cfg(test)]
 mod tests {
     use super::*;
-    use crate::{make, prover, second};
+    use crate::{make, prover};
 
     #[test]
     fn rewritten_dockets_stay_accepted() {

@@ -1,4 +1,4 @@
-//! The proved implementation behind `docket.h`, a second implementation, and what is needed to compare the two.
+//! The proved implementation behind `docket.h`, and what is needed to compare it with the second one.
 
 pub mod calls;
 pub mod damage;
@@ -7,5 +7,4 @@ pub mod native;
 pub mod prover;
 pub mod random;
 pub mod samples;
-pub mod second;
 pub mod tally;

@@ -6,12 +6,12 @@
 //!
 //! The last line is `N passed, 0 failed`; a difference is printed with the docket in hexadecimal and both answers.
 
+use second::Docket;
 use std::io::Write;
 use std::path::{Path, PathBuf};
 use std::process::{Command, Stdio};
 use tests::calls::{self, check_code, Call, UNTOUCHED};
 use tests::random::Random;
-use tests::second::{self, Docket};
 use tests::tally::Tally;
 use tests::{damage, make, native, prover, samples};
 
@@ -98,14 +98,20 @@ fn run_samples(results: &mut Results) {
     for sample in samples::calls() {
         results.expect(sample.name, call_problem(&sample));
     }
+    results.expect("standard input that cannot be read", unreadable_problem());
 }
 
 /// What is wrong with what the two implementations and the program say of a docket.
 fn line_problem(docket: &[u8], line: &str) -> Option<String> {
     let (second, printed) = (second::line(docket), printed_line(docket));
     let (native, code) = (native::check(docket), check_code(docket));
-    let good = second.trim_end() == line && printed == second && native == code;
+    let good = second.trim_end() == line && printed == second && native == code && figures_agree(docket);
     (!good).then(|| format!("expected {line}, second {second:?}, printed {printed:?}, codes {native} and {code}"))
+}
+
+/// Whether docket_figures says of a docket what the second implementation says.
+fn figures_agree(docket: &[u8]) -> bool {
+    native::figures(docket) == calls::figures(docket)
 }
 
 fn call_problem(sample: &samples::CallSample) -> Option<String> {
@@ -131,19 +137,36 @@ fn call_problem(sample: &samples::CallSample) -> Option<String> {
     None
 }
 
+fn program() -> PathBuf {
+    Path::new(env!("CARGO_MANIFEST_DIR")).join("../target/bin/docket")
+}
+
 /// The line that the program prints for a docket on standard input.
 fn printed_line(docket: &[u8]) -> String {
-    let program = Path::new(env!("CARGO_MANIFEST_DIR")).join("../target/bin/docket");
-    let mut child = Command::new(&program)
+    let mut child = Command::new(program())
         .stdin(Stdio::piped())
         .stdout(Stdio::piped())
         .spawn()
-        .unwrap_or_else(|error| panic!("{}: {error}", program.display()));
+        .unwrap_or_else(|error| panic!("{}: {error}", program().display()));
     // The program may end before it has read all of a file that is too long.
     let _ = child.stdin.take().map(|mut input| input.write_all(docket));
     let output = child.wait_with_output().expect("the program's output");
     String::from_utf8_lossy(&output.stdout).into_owned()
 }
+
+/// What is wrong with what the program does where standard input is a directory, which no read gets a byte of.
+fn unreadable_problem() -> Option<String> {
+    let directory = std::fs::File::open("/").expect("the root directory");
+    let output = Command::new(program())
+        .stdin(directory)
+        .output()
+        .expect("the program's output");
+    let good = output.stdout.is_empty() && output.stderr == b"docket: standard input cannot be read\n";
+    (!good).then(|| format!("{output:?}"))
+}
+
+/// The least number of dockets in the corpus, so that it is seen where some are gone.
+const CORPUS: usize = 48;
 
 /// Runs the corpus; hands back its accepted dockets.
 fn run_corpus(results: &mut Results) -> Vec<Docket> {
@@ -154,6 +177,8 @@ fn run_corpus(results: &mut Results) -> Vec<Docket> {
         .collect();
     files.retain(|path| path.extension().is_some_and(|ending| ending == "docket"));
     files.sort();
+    let missing = (files.len() < CORPUS).then(|| format!("{} of at least {CORPUS} dockets", files.len()));
+    results.expect("the corpus is whole", missing);
     let mut accepted = vec![];
     for path in files {
         let docket = std::fs::read(&path).expect("a docket of the corpus");
@@ -183,6 +208,7 @@ impl Pool {
             make::largest(),
             make::still(2),
             make::still(64),
+            make::last_no_input(),
             make::deep(1),
             make::deep(40),
         ]);
@@ -263,6 +289,9 @@ fn compare_check(tally: &mut Tally, docket: &[u8]) {
     let (native, code) = (native::check(docket), check_code(docket));
     if native != code || before != docket {
         tally.differ(docket, format!("check: {native}, second implementation: {code}"));
+    }
+    if !figures_agree(docket) {
+        tally.differ(docket, "other figures, or another code with them".into());
     }
     tally.count_docket(docket, native);
 }

@@ -1,6 +1,6 @@
 //! Families of accepted dockets.
 
-use crate::second::{Docket, Leaf, Node, Rule, State};
+use second::{Docket, Leaf, Node, Rule, State};
 
 /// A node with no set.
 pub fn node(kind: u8, party: usize, argument: usize) -> Node {
@@ -195,6 +195,13 @@ pub fn still(states: usize) -> Docket {
         nodes: vec![node(1, 2, 0)],
         leaves: vec![],
     }
+}
+
+/// 64 states without a rule, of which the last one alone is no input.
+pub fn last_no_input() -> Docket {
+    let mut docket = still(64);
+    docket.states[63].input = false;
+    docket
 }
 
 /// A tree of the given depth, 1 or more: rule 0 0 to 0 1 is not enabled, again and again.

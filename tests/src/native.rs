@@ -37,12 +37,21 @@ extern "C" {
         steps: *mut u64,
         rests: *mut u64,
     ) -> u64;
+    fn docket_figures(docket: *const u8, docket_len: usize, figures: *mut u64) -> u64;
 }
 
 /// What docket_check returns: 0, or the number times 65,536 plus the place.
 pub fn check(docket: &[u8]) -> u64 {
     // SAFETY: the pointer and the length are those of one slice, which the library only reads.
     unsafe { docket_check(docket.as_ptr(), docket.len()) }
+}
+
+/// What docket_figures returns, and what it leaves behind its pointer.
+pub fn figures(docket: &[u8]) -> (u64, [u64; 6]) {
+    let mut figures = [UNTOUCHED; 6];
+    // SAFETY: as in check; six numbers can be written behind the last pointer, which overlaps nothing.
+    let code = unsafe { docket_figures(docket.as_ptr(), docket.len(), figures.as_mut_ptr()) };
+    (code, figures)
 }
 
 /// What a machine call says; the counts are lent as they are.

@@ -3,7 +3,7 @@
 
 use crate::make::{node, rule};
 use crate::random::Random;
-use crate::second::{self, Docket, Leaf, Node, State};
+use second::{Docket, Leaf, Node, State};
 
 /// The most nodes that a search may use, and the most states for which leaves are tried.
 const MOST_NODES: usize = 300;

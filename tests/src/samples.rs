@@ -2,7 +2,7 @@
 
 use crate::calls::Call;
 use crate::make::{self, node};
-use crate::second::{Docket, Leaf};
+use second::{Docket, Leaf};
 
 /// A name, a docket's bytes and the line that the check's program prints.
 pub type Sample = (&'static str, Vec<u8>, &'static str);
@@ -170,6 +170,41 @@ pub fn edges() -> Vec<Sample> {
             make::relay(60, 2048).bytes(),
             "accepted 60 59 1 2048 59 59",
         ),
+        (
+            "state 63",
+            changed(largest(), |d| d.states[63].verdict = 5),
+            "refused 5 63",
+        ),
+        (
+            "layer of rule 255",
+            changed(largest(), |d| d.rules[255].layer = 16),
+            "refused 6 255",
+        ),
+        (
+            "pair of rule 255",
+            changed(largest(), |d| d.rules[255].before = d.rules[0].before),
+            "refused 7 255",
+        ),
+        (
+            "lowering of rule 255",
+            changed(largest(), |d| d.rules[255].after = [63, 63]),
+            "refused 9 255",
+        ),
+        (
+            "weight of leaf 127",
+            changed(largest(), |d| d.leaves[127].y2[63] = 10_001),
+            "refused 11 127",
+        ),
+        (
+            "field of node 2,047",
+            changed(largest(), |d| d.nodes[2047].kind = 9),
+            "refused 12 2047",
+        ),
+        (
+            "ground of node 2,047",
+            changed(largest(), |d| d.nodes[2047].party = 1),
+            "refused 13 2047",
+        ),
         ("no byte", vec![], "refused 1 0"),
         ("23 bytes", broadcast().bytes()[..23].to_vec(), "refused 1 0"),
         ("65,536 bytes more", longer(broadcast().bytes(), 65_536), "refused 1 0"),
@@ -294,6 +329,13 @@ pub fn calls() -> Vec<CallSample> {
             Call::StartTest,
             Err((22, 3)),
         ),
+        same(
+            "no input state, the last of 64",
+            &make::last_no_input().bytes(),
+            &[[1; 32], [1; 32]].concat(),
+            Call::StartTest,
+            Err((22, 63)),
+        ),
         same("rule number R", &broadcast, &[1, 1], Call::Step(1), Err((23, 1))),
         same(
             "the greatest rule number",
@@ -301,6 +343,13 @@ pub fn calls() -> Vec<CallSample> {
             &[1, 1],
             Call::CanAct(most),
             Err((23, most)),
+        ),
+        same(
+            "rule 255 cannot act",
+            &make::largest().bytes(),
+            &[vec![2], vec![0; 63]].concat(),
+            Call::Step(255),
+            Err((24, 255)),
         ),
         same(
             "a refused docket",

@@ -1,6 +1,6 @@
 //! What the compared inputs were, so that the comparison can show that it reached every test.
 
-use crate::second::{self, Refusal};
+use second::Refusal;
 use std::collections::{BTreeMap, BTreeSet};
 
 #[derive(Default)]
@@ -60,14 +60,19 @@ impl Tally {
         self.differences.extend(other.differences);
     }
 
-    /// What the inputs failed to reach: several places with every refusal that has them, every kind of node, half of the
-    /// dockets past tests 1 to 8 and a tenth of them accepted.
+    /// What the inputs failed to reach: several places with every refusal that has them, some last places, every kind of
+    /// node, half of the dockets past tests 1 to 8 and a tenth of them accepted.
     pub fn not_reached(&self) -> Vec<String> {
         let mut missing = vec![];
         for (number, least) in LEAST_PLACES {
             let met = self.places.get(&number).map_or(0, BTreeSet::len);
             if met < least {
                 missing.push(format!("refusal {number}: {met} places of at least {least}"));
+            }
+        }
+        for (number, place) in LAST_PLACES {
+            if !self.places.get(&number).is_some_and(|places| places.contains(&place)) {
+                missing.push(format!("refusal {number} at place {place}"));
             }
         }
         for (kind, &count) in self.kinds.iter().enumerate() {
@@ -84,6 +89,10 @@ impl Tally {
         missing
     }
 }
+
+/// Places that must be met: the place behind the last state in test 5, the last layer, the last state, and the greatest
+/// rule number.
+const LAST_PLACES: [(u32, u32); 4] = [(5, 64), (8, 15), (22, 63), (23, u32::MAX)];
 
 /// How many places must be met with each refusal; one for those whose place is always 0, all for counts and offsets.
 const LEAST_PLACES: [(u32, usize); 18] = [

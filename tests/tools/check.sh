@@ -1,12 +1,22 @@
 #!/usr/bin/env bash
-# Tests tools/docket: its lines, summary and exit statuses on odd files and names, its progress, and when it builds the program.
+# Tests tools/docket: its options, lines, words, summary and exit statuses on odd files and names, its progress, when it
+# builds the program, two uses at once, signals, and that it leaves no temporary folder.
+# A wait that ends by a time limit is a failure: no test passes or fails by how long something takes.
 set -euo pipefail
 cd "$(dirname "$0")/../.."
 root=$(pwd -P)
 work=$(cd "$(mktemp -d)" && pwd -P)
-trap 'rm -rf "$work"' EXIT
+# shellcheck disable=SC2046
+trap 'kill $(jobs -pr) 2>/dev/null || :; rm -rf "$work"' EXIT
 passed=0 failed=0 status=0
 out=$work/out err=$work/err
+# Every temporary folder of the tool is made here, and at the end it is empty.
+export TMPDIR=$work/tmp
+mkdir "$TMPDIR"
+
+for name in script flock setsid timeout; do
+  command -v "$name" >/dev/null || { echo "tools: $name of util-linux or coreutils is not in PATH"; exit 2; }
+done
 
 # Runs a command and keeps its exit status, standard output and standard error.
 try() {
@@ -35,7 +45,10 @@ printed() { [[ $status == "$1" && $(<"$out") == "$2" && ! -s $err ]]; }
 ended() { [[ $status == "$1" && $(<"$out") == "$2" && $(<"$err") == *"$3"* ]]; }
 
 # Whether it ended with status $1, and printed the usage to the file $2 and nothing to the file $3.
-usage() { [[ $status == "$1" && $(<"$2") == 'usage: tools/docket '* && ! -s $3 ]]; }
+usage() { [[ $status == "$1" && $(<"$2") == *'usage: tools/docket '* && ! -s $3 ]]; }
+
+# Whether no temporary folder is left.
+tidy() { [[ -z $(ls -A "$TMPDIR") ]]; }
 
 # ---- files and names
 
@@ -43,6 +56,8 @@ mkdir "$work/files"
 cd "$work/files"
 tool=$root/tools/docket
 good='accepted 2 1 1 5 1 1'
+bad='refused 13 2: the ground of node 2 does not hold'
+length='refused 1 0: the file has fewer than 24 bytes, or another length than its header says'
 cp "$root/examples/broadcast.docket" good.docket
 cp "$root/tests/corpus/P05_node2_set_1.docket" bad.docket
 : >empty.docket
@@ -54,53 +69,111 @@ mkdir folder.docket
 odd="%s\\n \$HOME \"q\" '*.docket"
 for name in 'a b.docket' -x.docket --help -- - "$odd"; do cp good.docket "./$name"; done
 
+# The program is built here, so that no test below says so.
+try "$tool" good.docket
 try "$tool" good.docket
 holds 'one accepted file' printed 0 "good.docket: $good
 1 file: 1 accepted, 0 refused, 0 trouble"
 
 try "$tool" good.docket bad.docket good.docket
 holds 'a refused file among accepted ones' printed 1 "good.docket: $good
-bad.docket: refused 13 2
+bad.docket: $bad
 good.docket: $good
 3 files: 2 accepted, 1 refused, 0 trouble"
 
 try "$tool" missing.docket bad.docket folder.docket /proc/self/mem good.docket
 holds 'trouble, and the other files are checked' printed 2 "missing.docket: trouble: no such file
-bad.docket: refused 13 2
+bad.docket: $bad
 folder.docket: trouble: is a directory
-/proc/self/mem: trouble: cannot be read
+/proc/self/mem: trouble: cannot be read: Input/output error
 good.docket: $good
 5 files: 1 accepted, 1 refused, 3 trouble"
 
 try "$tool" empty.docket 65535.docket 65536.docket longer.docket
-holds 'empty and long files' printed 1 'empty.docket: refused 1 0
-65535.docket: refused 2 0
-65536.docket: refused 1 0
-longer.docket: refused 1 0
-4 files: 0 accepted, 4 refused, 0 trouble'
+holds 'empty and long files' printed 1 "empty.docket: $length
+65535.docket: refused 2 0: the version is not 1
+65536.docket: $length
+longer.docket: $length
+4 files: 0 accepted, 4 refused, 0 trouble"
 
-try "$tool" 'a b.docket' -x.docket - -- "$odd"
+try "$tool" -- 'a b.docket' -x.docket ./- -- "$odd"
 holds 'odd names' printed 0 "a b.docket: $good
 -x.docket: $good
--: $good
+./-: $good
 --: $good
 $odd: $good
 5 files: 5 accepted, 0 refused, 0 trouble"
 
+strange_name=$(printf 'a\033[31m\nb\tc\177\303\251.docket')
+cp good.docket "$strange_name"
+try "$tool" "$strange_name"
+holds 'control characters in a name' printed 0 'a\033[31m\012b\011c\177é.docket: accepted 2 1 1 5 1 1
+1 file: 1 accepted, 0 refused, 0 trouble'
+
+# ---- options
+
 try "$tool" -- --help
 holds 'a file named --help' printed 0 "--help: $good
 1 file: 1 accepted, 0 refused, 0 trouble"
+for option in -h --help; do
+  try "$tool" "$option"
+  holds "$option" usage 0 "$out" "$err"
+  try "$tool" good.docket "$option"
+  holds "$option behind a file" usage 0 "$out" "$err"
+done
+try "$tool"
+holds 'no argument' usage 2 "$err" "$out"
+try "$tool" -q --
+holds 'no file after --' usage 2 "$err" "$out"
+for option in -x -qq --quiet --versions -x.docket; do
+  try "$tool" "$option" good.docket
+  holds "$option" usage 2 "$err" "$out"
+  holds "$option is named" ended 2 '' "docket: unknown option $option"
+done
+try "$tool" --version
+holds '--version' printed 0 "docket $(<"$root/VERSION")
+$(rt version)"
+
+try "$tool" -q good.docket bad.docket missing.docket
+holds '-q' printed 2 "bad.docket: $bad
+missing.docket: trouble: no such file
+3 files: 1 accepted, 1 refused, 1 trouble"
+try "$tool" good.docket -q
+holds '-q behind the files, all accepted' printed 0 '1 file: 1 accepted, 0 refused, 0 trouble'
+
+# In a folder without a file of the name -.
+# shellcheck disable=SC2016
+try sh -c 'cat bad.docket | (cd .. && "$0" - files/good.docket -)' "$tool"
+holds 'standard input, which is at its end the second time' printed 1 "-: $bad
+files/good.docket: $good
+-: $length
+3 files: 1 accepted, 2 refused, 0 trouble"
+# shellcheck disable=SC2016
+try sh -c '"$0" - </' "$tool"
+holds 'standard input that cannot be read' printed 2 '-: trouble: cannot be read: Is a directory
+1 file: 0 accepted, 0 refused, 1 trouble'
+
+# ---- standard output
 
 # shellcheck disable=SC2016
 try sh -c '"$0" good.docket >/dev/full' "$tool"
-holds 'standard output that cannot be written' test "$status" -eq 2
+holds 'standard output that cannot be written' ended 2 '' 'standard output cannot be written'
 
-try "$tool" --help
-holds '--help' usage 0 "$out" "$err"
-try "$tool"
-holds 'no argument' usage 2 "$err" "$out"
-try "$tool" --
-holds 'no file after --' usage 2 "$err" "$out"
+# Runs the tool on a pipe whose reader has gone before the tool begins. Its status is in the file 'status'.
+closed_pipe() {
+  mkfifo "$work/gone"
+  {
+    read -r _ <"$work/gone" || :
+    "$tool" good.docket bad.docket && echo 0 >"$work/status" || echo "$?" >"$work/status"
+  } | {
+    exec 0<&-
+    : >"$work/gone"
+  }
+}
+try closed_pipe
+holds 'a pipe that nobody reads: no word' printed 0 ''
+holds 'a pipe that nobody reads: status' test "$(<"$work/status")" -eq 2
+holds 'a pipe that nobody reads: no folder is left' tidy
 
 # ---- the dockets of the repository, from its root
 
@@ -116,6 +189,8 @@ files=(tests/corpus/*.docket)
 lines=$(for file in "${files[@]}"; do echo "$file: $(<"${file%.docket}.expect")"; done)
 accepted=$(grep -c ': accepted ' <<<"$lines")
 try tools/docket "${files[@]}"
+# Without the words behind a refusal.
+sed -i -E 's/: (refused [0-9]+ [0-9]+): [a-z].*$/: \1/' "$out"
 holds 'the corpus' printed 1 "$lines
 ${#files[@]} files: $accepted accepted, $((${#files[@]} - accepted)) refused, 0 trouble"
 
@@ -130,23 +205,21 @@ holds 'through links in PATH' printed 0 "good.docket: $good
 1 file: 1 accepted, 0 refused, 0 trouble"
 cd "$root/tools"
 try sh docket "$work/files/bad.docket"
-holds 'sh docket in its own folder' printed 1 "$work/files/bad.docket: refused 13 2
+holds 'sh docket in its own folder' printed 1 "$work/files/bad.docket: $bad
 1 file: 0 accepted, 1 refused, 0 trouble"
 
-if command -v script >/dev/null; then
-  cd "$work/files"
-  erase=$'\r\e[K'
-  try script -qec "'$tool' good.docket bad.docket" /dev/null
-  sed -i 's/\r$//' "$out"
-  holds 'progress on a terminal' printed 1 "${erase}checking 1 of 2${erase}good.docket: $good
-${erase}checking 2 of 2${erase}bad.docket: refused 13 2
+cd "$work/files"
+erase=$'\r\e[K'
+try script -qec "'$tool' good.docket bad.docket" /dev/null
+sed -i 's/\r$//' "$out"
+holds 'progress on a terminal' printed 1 "${erase}checking 1 of 2${erase}good.docket: $good
+${erase}checking 2 of 2${erase}bad.docket: $bad
 2 files: 1 accepted, 1 refused, 0 trouble"
-  try script -qec "'$tool' good.docket 2>'$work/said'" /dev/null
-  sed -i 's/\r$//' "$out"
-  holds 'lines on a terminal, standard error not' printed 0 "good.docket: $good
+try script -qec "'$tool' good.docket 2>'$work/said'" /dev/null
+sed -i 's/\r$//' "$out"
+holds 'lines on a terminal, standard error not' printed 0 "good.docket: $good
 1 file: 1 accepted, 0 refused, 0 trouble"
-  holds 'no progress where standard error is no terminal' test ! -s "$work/said"
-fi
+holds 'no progress where standard error is no terminal' test ! -s "$work/said"
 
 # ---- building, in a small repository with an rt that proves nothing
 
@@ -154,13 +227,14 @@ mkdir -p "$work/repo/tools" "$work/repo/crates/docket/src" "$work/rt"
 cp "$root/tools/docket" "$work/repo/tools/"
 : >"$work/repo/crates.txt"
 : >"$work/repo/crates/docket/src/main.rt"
-program=$work/repo/target/bin/docket
-cd "$work/files"
+made=$work/repo/target/bin/docket
+program=$work/repo/target/tools/docket
+small_tool=$work/repo/tools/docket
 
-# The stand-in for rt notes each call and does what the file 'does' says.
+# The stand-in for rt notes where and how it is called, and does what the file 'does' says.
 cat >"$work/rt/rt" <<EOF
 #!/bin/sh
-pwd >>"$work/rt/calls"
+echo "\$(pwd): \$*" >>"$work/rt/calls"
 echo "rt was called with \$*"
 . "$work/rt/does"
 EOF
@@ -170,30 +244,49 @@ rt_does() {
   : >"$work/rt/calls"
   cat >"$work/rt/does"
 }
-built() { [[ $(wc -l <"$work/rt/calls") == "$1" && $(sort -u "$work/rt/calls") == "$work/repo" ]]; }
-small() { try env PATH="$work/rt:$PATH" "$work/repo/tools/docket" "$@"; }
+# Whether rt was called $1 times, each time as it must be.
+built() { [[ $(wc -l <"$work/rt/calls") == "$1" && $(sort -u "$work/rt/calls") == "$work/repo: check docket" ]]; }
+# Whether rt was not called.
+not_built() { [[ ! -s $work/rt/calls ]]; }
+small() { try env PATH="$work/rt:$PATH" "$small_tool" "$@"; }
 strange() { [[ $status == 2 && $(<"$out") == 'good.docket: trouble: the program ended with status '*'1 trouble' && ! -s $err ]]; }
 program_does() { printf '#!/bin/sh\n%s\n' "$1" >"$program"; }
 line="good.docket: $good
 1 file: 1 accepted, 0 refused, 0 trouble"
 
-# As rt does, it builds nothing where it finds its stamp.
-rt_does <<EOF
-[ ! -e target/stamp/docket ] || exit 0
+# What rt does where it builds: as the real one, nothing where it finds its stamp.
+builds="[ ! -e target/stamp/docket ] || exit 0
 mkdir -p target/bin target/stamp
 printf '#!/bin/sh\necho $good\n' >target/bin/docket
 chmod +x target/bin/docket
-: >target/stamp/docket
-EOF
-small good.docket
-holds 'the first use builds, and says so' ended 0 "$line" 'some minutes'
-holds 'rt is called in the repository' built 1
+: >target/stamp/docket"
+
+rt_does <<<"$builds"
+small missing.docket folder.docket
+holds 'no build where no file can be checked' ended 2 'missing.docket: trouble: no such file
+folder.docket: trouble: is a directory
+2 files: 0 accepted, 0 refused, 2 trouble' ''
+holds 'rt is not called for missing files' not_built
+small -x good.docket
+holds 'a wrong option before a build' usage 2 "$err" "$out"
+holds 'rt is not called for a wrong option' not_built
+small --help
+holds '--help builds nothing' not_built
+small good.docket missing.docket
+holds 'a missing file is said before the build' test "$(head -n 1 "$err")" = 'docket: missing.docket: no such file'
+holds 'the first use builds, and says so' ended 2 "good.docket: $good
+missing.docket: trouble: no such file
+2 files: 1 accepted, 0 refused, 1 trouble" 'some minutes'
+holds 'rt is called in the repository, to check docket' built 1
 small good.docket
 holds 'the second use does not build' printed 0 "$line"
 holds 'rt is not called' built 1
-rm "$program"
+rm "$program" "$made"
 small good.docket
 holds 'a program that was removed is built again' ended 0 "$line" 'some minutes'
+rm "$program"
+small good.docket
+holds 'a copy that was removed is made again' ended 0 "$line" 'some minutes'
 
 for source in crates/docket/src/main.rt crates/docket/src crates.txt; do
   rt_does <<<':'
@@ -208,30 +301,188 @@ for source in crates/docket/src/main.rt crates/docket/src crates.txt; do
   holds "$source was newer, and the program stood" built 1
 done
 
+# A source that changes while rt is at work is newer than the program: the next use builds again.
+rt_does <<EOF
+: >"$work/begun"
+until [ -n "\$(find crates.txt -newer "$work/begun")" ]; do touch crates.txt; done
+EOF
+touch "$work/repo/crates.txt"
+rm "$program"
+small good.docket
+holds 'a source changes during a build' built 1
+rt_does <<<':'
+small good.docket
+holds 'and the next use builds again' built 1
+small good.docket
+holds 'once' built 1
+
 for answer in 'echo hello' 'echo accepted 1 2 3 4 5' 'echo accepted 1 2 3 4 5 6 7' 'echo refused 1' 'echo refused 1 x' \
-  'echo refused 1 0; echo refused 1 0' 'echo accepted 2 1 1 5 1 1; exit 3' 'exit 0'; do
+  'echo refused 1 0; echo refused 1 0' 'echo accepted 2 1 1 5 1 1; exit 3' 'exit 0' 'echo trouble >&2'; do
   program_does "$answer"
   small good.docket
   holds "a program that does '$answer'" strange
 done
 
+# ---- the words of every refusal, on a docket of 2 states and 5 nodes
+
+words() {
+  program_does "echo refused $1 $2"
+  small good.docket
+  holds "the words of $1 $2" printed 1 "good.docket: refused $1 $2$3
+1 file: 0 accepted, 1 refused, 0 trouble"
+}
+words 1 0 ': the file has fewer than 24 bytes, or another length than its header says'
+words 2 0 ': the version is not 1'
+words 3 0 ': the number of states is not 2 to 64'
+words 3 1 ': the number of rules is over 256'
+words 3 2 ': the number of layers is over 16, or one of rules and layers is 0 and the other is not'
+words 3 3 ': the number of nodes is not 1 to 2,048'
+words 3 4 ': the number of leaves is over 128'
+words 4 0 ': the states do not begin at byte 24'
+words 4 1 ': the rules do not begin where the states end'
+words 4 2 ': the layers do not begin where the rules end'
+words 4 3 ': the nodes do not begin where the layers end'
+words 4 4 ': the leaves do not begin where the nodes end'
+words 4 5 ': the file does not end where the leaves end'
+words 5 1 ': state 1 has a bit set that must be 0'
+words 5 2 ': no state is an input'
+words 6 0 ': rule 0 has a state or layer that does not exist, a pair out of order, or two equal pairs'
+words 7 200 ': rule 200 has the before pair of an earlier rule'
+words 8 15 ': layer 15 has no rule, or a weight over 1,000,000'
+words 9 7 ': rule 7 does not lower the weights of its layer'
+words 10 3 ': rule 3 breaks the handover'
+words 11 127 ': leaf 127 has a weight outside -10,000 to 10,000'
+words 12 4 ': node 4 has a bad field, is deeper than 40, or is left over'
+words 12 5 ': the tree needs more nodes than there are'
+words 13 2047 ': the ground of node 2047 does not hold'
+words 99 1 ''
+
+# ---- builds that fail
+
 rt_does <<<'echo not proved; exit 1'
 touch -t 200001010000 "$program"
 small good.docket
 holds 'a build that fails' ended 2 '' 'not proved'
-holds 'no program is kept where the build failed' test ! -e "$program"
+small good.docket
+holds 'the old program is not used' ended 2 '' 'not proved'
+rm "$made"
 rt_does <<<':'
 small good.docket
 holds 'a build that leaves no program' ended 2 '' 'the build failed'
 
 mkdir "$work/without"
 for name in sh dirname readlink mktemp find head tail rm mkdir touch cat; do ln -s "$(command -v "$name")" "$work/without/$name"; done
-try env PATH="$work/without" "$work/repo/tools/docket" good.docket
-holds 'a build without rt' ended 2 '' 'not in PATH'
+try env PATH="$work/without" "$small_tool" good.docket
+holds 'a build without rt' ended 2 '' 'rt of the Rattle kit is not in PATH'
+ln -s "$work/rt/rt" "$work/without/rt"
+try env PATH="$work/without" "$small_tool" good.docket
+holds 'a build without flock' ended 2 '' 'flock of util-linux is not in PATH'
 
 cp "$root/tools/docket" "$work/bin/copy"
 try "$work/bin/copy" good.docket
 holds 'a copy outside a repository' ended 2 '' 'is not the repository'
 
+# ---- two uses at once, and signals
+# Where the file 'waits' is there, the stand-in for rt writes a line to 'begun.fifo' and then waits for one from 'go'. A
+# child of its own holds 'alive' open: the test's read of that ends when the last process of the build has ended.
+
+mkfifo "$work/begun.fifo" "$work/go" "$work/alive" "$work/says"
+waiting_rt() {
+  rt_does <<EOF
+if [ -e "$work/waits" ]; then
+  rm "$work/waits"
+  sleep 1000 >"$work/alive" 2>&1 &
+  echo \$! >"$work/sleeper"
+  echo >"$work/begun.fifo"
+  read -r _ <"$work/go"
+  kill \$!
+fi
+$builds
+EOF
+  rm -rf "$work/repo/target"
+  : >"$work/waits"
+}
+# Starts the tool beside this script, with the signal INT not ignored; its lines go to $1.out, what it says to $2.
+begin() {
+  env --default-signal=INT PATH="$work/rt:$PATH" "$small_tool" good.docket >"$work/$1.out" 2>"$2" </dev/null &
+}
+# Reads the first line of a pipe, or fails after half a minute.
+heard() { timeout 30 head -n 1 "$1" >"$work/heard"; }
+# Whether the last process of the build ends. Where it does not, ends it, so that the tests go on.
+build_ends() {
+  timeout 30 cat <&7 && return
+  kill "$(<"$work/sleeper")"
+  # shellcheck disable=SC2016
+  timeout 5 sh -c 'echo >"$0"' "$work/go" || :
+  return 1
+}
+# Waits for a use of the tool and keeps what it left, as try does.
+finish() {
+  status=0
+  wait "$2" || status=$?
+  cp "$work/$1.out" "$out"
+  if [[ -f $work/$1.err ]]; then cp "$work/$1.err" "$err"; else : >"$err"; fi
+}
+
+waiting_rt
+begin first "$work/first.err"
+first=$!
+exec 7<"$work/alive"
+holds 'the first use builds' heard "$work/begun.fifo"
+begin second "$work/says"
+second=$!
+holds 'the second use says something' heard "$work/says"
+holds 'the second use waits' grep -q 'another build of the program is under way' "$work/heard"
+echo >"$work/go"
+finish first "$first"
+holds 'the first use ends well' ended 0 "$line" 'the program is built'
+finish second "$second"
+holds 'the second use ends well' printed 0 "$line"
+holds 'rt was called once for both' built 1
+exec 7<&-
+
+for signal in INT TERM HUP; do
+  waiting_rt
+  begin first "$work/first.err"
+  first=$!
+  exec 7<"$work/alive"
+  holds "$signal: the first use builds" heard "$work/begun.fifo"
+  begin second "$work/says"
+  second=$!
+  exec 6<"$work/says"
+  holds "$signal: the second use waits" read -r -t 30 _ <&6
+  kill -s "$signal" "$first"
+  finish first "$first"
+  holds "$signal: the first use says that it was interrupted" ended 2 '' 'docket: interrupted'
+  holds "$signal: the prover has ended" build_ends
+  exec 7<&-
+  finish second "$second"
+  exec 6<&-
+  holds "$signal: the second use builds the program" printed 0 "$line"
+  holds "$signal: rt was called twice" built 2
+  holds "$signal: the program stands" test -x "$program"
+done
+
+waiting_rt
+begin first "$work/first.err"
+first=$!
+exec 7<"$work/alive"
+holds 'a use that builds' heard "$work/begun.fifo"
+begin second "$work/says"
+second=$!
+exec 6<"$work/says"
+holds 'a use that waits' read -r -t 30 _ <&6
+kill -s INT "$second"
+finish second "$second"
+timeout 30 cat <&6 >"$err" || :
+exec 6<&-
+holds 'a use that waits is interrupted' ended 2 '' 'docket: interrupted'
+echo >"$work/go"
+finish first "$first"
+exec 7<&-
+holds 'the one that builds goes on' ended 0 "$line" 'the program is built'
+holds 'rt was called once' built 1
+
+holds 'no temporary folder is left' tidy
 echo "$passed passed, $failed failed"
 [[ $failed -eq 0 ]]

@@ -1,10 +1,15 @@
 // What C calls. A slice is a pointer and a length; include/docket.h has the prototypes. No function has a requires: C
-// cannot meet one.
+// cannot meet one. A refused call neither reads nor writes behind its answer pointers.
 ghost use mathlib.Core.Path.{_≡_};
 ghost use Rattle.theory.specs.Machine.{step as stepCall, run as runCall};
 ghost use Rattle.checker.specs.Check.{checkOf};
 ghost use Rattle.machine.specs.Calls.{startOf, enabledOf, terminalOf, verdictOf, replyOf, countsOf};
-ghost use Rattle.codes.specs.Codes.{checkCode, startCode, yesNoCode, yesNoValue, verdictCode, verdictValue, replyCode, replySteps, replyRests};
+ghost use Rattle.codes.specs.Codes.{checkCode, checkFigures, startCode, yesNoCode, yesNoValue, verdictCode, verdictValue};
+ghost use Rattle.codes.specs.Codes.{replyCode, replySteps, replyRests};
+use checker::Checked;
+use machine::Ran;
+use machine::Verdict;
+use machine::YesNo;
 
 // The check of a docket: 0 for accepted, else the refusal's number times 65,536 plus its place.
 #[no_mangle]
@@ -12,6 +17,22 @@ pub extern "C" fn docket_check(docket: &[u8]) -> u64
     ensures { λ r. ⌜ r ≡ checkCode (checkOf (now (docket .entry))) ⌝ }
 {
     codes::check_code(checker::check(docket))
+}
+
+// The check, and S R L N W M where it accepts.
+#[no_mangle]
+pub extern "C" fn docket_figures(docket: &[u8], figures: &mut [u64; 6]) -> u64
+    ensures code { λ r. ⌜ r ≡ checkCode (checkOf (now (docket .entry))) ⌝ }
+    ensures figures { λ _. ⌜ now (figures .exit) ≡ checkFigures (now (figures .entry)) (checkOf (now (docket .entry))) ⌝ }
+{
+    let a = checker::check(docket);
+    match a {
+        Checked::Accepted(f) => {
+            *figures = codes::figures(f);
+            0
+        }
+        Checked::Refused(r) => codes::check_refusal(r),
+    }
 }
 
 // The start test: 0 where it passes, else the refusal's number times 4,294,967,296 plus its place, as with every call below.
@@ -22,26 +43,36 @@ pub extern "C" fn docket_start_test(docket: &[u8], counts: &[u32]) -> u64
     codes::start_code(machine::start_test(docket, counts))
 }
 
-// Whether the rule can act: answer is 1 or 0.
+// Whether the rule can act: answer is 1 for yes, 0 for no, and as it was after a refusal.
 #[no_mangle]
 pub extern "C" fn docket_can_act(docket: &[u8], counts: &[u32], rule: u32, answer: &mut u64) -> u64
     ensures code { λ r. ⌜ r ≡ yesNoCode (enabledOf (now (docket .entry)) (now (counts .entry)) rule) ⌝ }
     ensures answer { λ _. ⌜ now (answer .exit) ≡ yesNoValue (now (answer .entry)) (enabledOf (now (docket .entry)) (now (counts .entry)) rule) ⌝ }
 {
     let a = machine::can_act(docket, counts, rule);
-    *answer = codes::yes_no_value(*answer, a);
-    codes::yes_no_code(a)
+    match a {
+        YesNo::Is(acts) => {
+            *answer = codes::as_number(acts);
+            0
+        }
+        YesNo::Refused(r) => codes::call_refusal(r),
+    }
 }
 
-// Whether no rule can act: answer is 1 or 0.
+// Whether no rule can act: answer is 1 for yes, 0 for no.
 #[no_mangle]
 pub extern "C" fn docket_is_standstill(docket: &[u8], counts: &[u32], answer: &mut u64) -> u64
     ensures code { λ r. ⌜ r ≡ yesNoCode (terminalOf (now (docket .entry)) (now (counts .entry))) ⌝ }
     ensures answer { λ _. ⌜ now (answer .exit) ≡ yesNoValue (now (answer .entry)) (terminalOf (now (docket .entry)) (now (counts .entry))) ⌝ }
 {
     let a = machine::is_standstill(docket, counts);
-    *answer = codes::yes_no_value(*answer, a);
-    codes::yes_no_code(a)
+    match a {
+        YesNo::Is(still) => {
+            *answer = codes::as_number(still);
+            0
+        }
+        YesNo::Refused(r) => codes::call_refusal(r),
+    }
 }
 
 // The verdict, at a standstill or not: answer is 0, 1, or 2 for mixed.
@@ -51,8 +82,17 @@ pub extern "C" fn docket_verdict(docket: &[u8], counts: &[u32], answer: &mut u64
     ensures answer { λ _. ⌜ now (answer .exit) ≡ verdictValue (now (answer .entry)) (verdictOf (now (docket .entry)) (now (counts .entry))) ⌝ }
 {
     let a = machine::read_verdict(docket, counts);
-    *answer = codes::verdict_value(*answer, a);
-    codes::verdict_code(a)
+    match a {
+        Verdict::Agreed(v) => {
+            *answer = codes::as_number(v);
+            0
+        }
+        Verdict::Mixed => {
+            *answer = 2;
+            0
+        }
+        Verdict::Refused(r) => codes::call_refusal(r),
+    }
 }
 
 // The rule acts once.
@@ -79,7 +119,12 @@ pub extern "C" fn docket_run(
     ensures rests { λ _. ⌜ now (rests .exit) ≡ replyRests (now (rests .entry)) (replyOf (now (docket .entry)) (now (counts .entry)) (runCall limit)) ⌝ }
 {
     let a = machine::run(docket, counts, limit);
-    *steps = codes::run_steps(*steps, a);
-    *rests = codes::run_rests(*rests, a);
-    codes::run_code(a)
+    match a {
+        Ran::After { steps: n, rests: t } => {
+            *steps = n as u64;
+            *rests = codes::as_number(t);
+            0
+        }
+        Ran::Refused(r) => codes::call_refusal(r),
+    }
 }

@@ -35,7 +35,8 @@ module _ (z : Sizes) (x : Sections) where
       ∷ record { number = 11; places = z .leaves; bad = badLeaf z (x .leaves) }
       ∷ []
 
-  -- Tests 12 and 13: the walk of the tree, which refutes that two runs from one start end with different outputs.
+  -- Tests 12 and 13: the walk of the tree, which refutes that from one start run 1 ends with a state of output 0 and run 2 with
+  -- a state of output 1.
   abbrev pub walkOf : Walked
   walkOf = treeAnswer P (disagreement P (weightsOf z (x .leaves))) (treeOf z (x .nodes))
 

@@ -8,6 +8,9 @@ use mathlib.Core.List.{List, [], _∷_, _++_}
 use mathlib.Core.Logic.{_↔_, _⊎_}
 use Prim.Native.Nat.{ℕ, _+_, _≤_, _<_}
 use lib.ListN.{length}
+use lib.Dec.{ltb}
+use lib.IntN.{ℤ, pos, _-ℤ_}
+use lib.Signed.{_≤ℤ_}
 use Rattle.theory.specs.Judge.{Test, Passes, FirstFits}
 use Rattle.theory.specs.Protocol.{Protocol, count, enabled, terminal, Shows, Start, fires, after, meetings}
 use Rattle.theory.specs.Ladder.{Layers, handover, Broken, layered, Laddered}
@@ -17,7 +20,7 @@ use Rattle.theory.specs.Tree.{Tree, Assumption, disagreement}
 use Rattle.theory.specs.Subtree.{TreeStands, TreeFails}
 use Rattle.theory.specs.Machine.{Call, step, run, Reply, stepped, ran, refused, meetingsOf, isSized, isWithin, admitted}
 use Rattle.theory.specs.Claims.{Certified, AsPublished, LayersAre, LayeredBy, WS², WS³, Rests, OneOutput, AllRefused, CallsMake, CallsRest, Rank}
-use Rattle.format.specs.Format.{headerOf, sectionsOf, protocolIn, layersIn, weightIn, endWeight, treeOf, weightsOf}
+use Rattle.format.specs.Format.{headerOf, sectionsOf, protocolIn, layersIn, weightIn, biased, endWeight, treeOf, weightsOf}
 use Rattle.format.specs.declared.Header.{Header}
 use Rattle.shape.specs.Shape.{refusal, shapeTests, shapeOf}
 use Rattle.shape.specs.Sound.{SoundShape}
@@ -34,6 +37,7 @@ use Rattle.codes.specs.Codes.{code, callCode, checkCode, startCode, yesNoCode, 
 pub mod Numbers
 pub mod Says
 pub mod Codes
+pub mod Weights
 pub mod Exact
 pub mod Handover
 pub mod Lists
@@ -44,8 +48,8 @@ pub mod Proved
 -- by the definition named here: startOf, enabledOf, terminalOf, verdictOf, replyOf, countsOf, checkOf.
 
 module _ (b c : List ℕ) where
-  -- How every machine call answers, a being the answer and refuse its refusals: a refusal of tests 1 to 8 is passed back; then
-  -- counts are refused by 20, and by 21, in this order; then the call says what is its own.
+  -- How every machine call answers: a is its answer, refuse r the answer that refuses by r. A refusal of tests 1 to 8 is passed
+  -- back; then counts are refused by 20, then by 21, both at place 0; else Own holds of the docket's protocol.
   pub record CallSays {A : Type 0} (a : A) (refuse : Refusal → A) (Own : Protocol → Type 0) : Type 0 where
     pub passed-back : (r : Refusal) → shapeOf b ≡ shape.Refused r → a ≡ refuse r
     pub not-sized : (h : Header) → SoundShape b h → isSized (protocolIn b h) c ≡ false → a ≡ refuse (refusal 20 0)
@@ -53,7 +57,7 @@ module _ (b c : List ℕ) where
     pub own : (h : Header) → SoundShape b h → admitted (protocolIn b h) c ≡ true → Own (protocolIn b h)
 
   -- State s is the lowest that is no input and holds a worker.
-  pub record Unfit (P : Protocol) (s : ℕ) : Type 0 where
+  pub record LowestUnfit (P : Protocol) (s : ℕ) : Type 0 where
     pub state : s < P .states
     pub no-input : P .input s ≡ false
     pub held : 0 < count c s
@@ -63,13 +67,15 @@ module _ (b c : List ℕ) where
   abbrev pub passBack : Refusal → Reply
   passBack r = refused (r .number) (r .place)
 
+  -- Demand 1, but for what is part of every function's proof: that it ends, and uses only what it was lent.
   pub record Demand1 : Type 0 where
-    -- A refusal of tests 1 to 8 is the first of them that fits.
+    -- What passes tests 1 to 8 has a sound shape, and nothing else has; a refusal of these tests is the first of them that fits.
+    pub shape-sound-is : (h : Header) → (shapeOf b ≡ shape.Sound h) ↔ SoundShape b h
     pub shape-refusal-is : (n k : ℕ) → (shapeOf b ≡ shape.Refused (refusal n k)) ↔ FirstFits (shapeTests b (headerOf b)) n k
     -- The start test: a start, or 22 at the lowest unfit state.
     pub start : CallSays (startOf b c) started.Refused (λ P.
         ((startOf b c ≡ started.Start) ↔ Start P c)
-        × ((s : ℕ) → (startOf b c ≡ started.Refused (refusal 22 s)) ↔ Unfit P s))
+        × ((s : ℕ) → (startOf b c ≡ started.Refused (refusal 22 s)) ↔ LowestUnfit P s))
     -- Can rule r act: as defined, or 23 at the number given.
     pub can-act : (r : ℕ) → CallSays (enabledOf b c r) answer.Refused (λ P.
         (r < P .rules → enabledOf b c r ≡ answer.Is (enabled P c r))
@@ -84,10 +90,10 @@ module _ (b c : List ℕ) where
         (fires P c r ≡ true → replyOf b c (step r) ≡ stepped)
         × (P .rules ≤ r → replyOf b c (step r) ≡ refused 23 r)
         × (r < P .rules → enabled P c r ≡ false → replyOf b c (step r) ≡ refused 24 r))
-    -- A run is not refused any more; demand 3 says what its numbers are.
+    -- A run is then never refused; calls-on-sound says what its numbers are.
     pub of-run : (limit : ℕ) → CallSays (replyOf b c (run limit)) passBack (λ P.
         (n : ℕ) × (rests : Bool) × (replyOf b c (run limit) ≡ ran n rests))
-    -- A refused step or run leaves the counts as they are; the other calls have no counts to leave.
+    -- A refused step or run leaves the counts as they are; the other calls are lent the counts for reading only.
     pub unchanged : (x : Call) (n k : ℕ) → replyOf b c x ≡ refused n k → countsOf b c x ≡ c
 
 -- ---- Demand 2: the check accepts a docket just where it keeps every rule
@@ -100,7 +106,7 @@ module _ (b : List ℕ) (h : Header) where
       let w = weightIn b h (layersIn b h .of r) in
       w (P .p′ r) + w (P .q′ r) < w (P .p r) + w (P .q r)
 
-  -- The tree, and what it refutes: that two runs from one start end with different outputs.
+  -- The tree, and what it refutes: that from one start run 1 ends with a state of output 0 and run 2 with a state of output 1.
   abbrev pub treeIn : Tree
   treeIn = treeOf (h .sizes) (sectionsOf b h .nodes)
 
@@ -126,15 +132,17 @@ module _ (b : List ℕ) (h : Header) where
   abbrev pub testsIn : List Test
   testsIn = shapeTests b h ++ certificateTests (h .sizes) (sectionsOf b h)
 
+-- The check accepts b.
 abbrev pub IsAccepted : List ℕ → Type 0
 IsAccepted b = (f : Summary) × (checkOf b ≡ Accepted f)
 
+-- Demand 2.
 pub record Demand2 (b : List ℕ) : Type 0 where
   -- A docket is accepted if it keeps every rule, and not otherwise.
   pub exact : IsAccepted b ↔ ((h : Header) × Rules b h)
   -- What is said of a docket that keeps every rule is its summary, S R L N W M.
   pub summary : (h : Header) → Rules b h → checkOf b ≡ Accepted (summaryOf (h .sizes) (sectionsOf b h))
-  -- A docket that is refused breaks a rule, whatever its header.
+  -- A docket that is refused does not keep every rule.
   pub refusals : (n k : ℕ) → checkOf b ≡ Refused (refusal n k) → (h : Header) → Rules b h → ⊥
   -- A refusal is given just where it is the first of tests 1 to 11 that fits, or where none of these fits and the walk
   -- gives it.
@@ -148,7 +156,8 @@ pub record Demand2 (b : List ℕ) : Type 0 where
   pub handover-broken : (s : ℕ) → checkOf b ≡ Refused (refusal 10 s) → let h = headerOf b in Broken (protocolIn b h) (layersIn b h) s
   pub handover-lowest : (s : ℕ) → checkOf b ≡ Refused (refusal 10 s) → let h = headerOf b in
       (u : ℕ) → u < s → Broken (protocolIn b h) (layersIn b h) u → ⊥
-  -- A docket that keeps every rule is a certificate of its protocol, and its own ladder passes.
+  -- The protocol of a docket that keeps every rule has a certificate, and the docket's own ladder passes; that its own tree
+  -- stands is in Rules.
   pub certified : (h : Header) → Rules b h → Certified (protocolIn b h)
   pub laddered : (h : Header) → Rules b h → Laddered (protocolIn b h) (layersIn b h) (weightIn b h)
 
@@ -198,8 +207,9 @@ module _ (b : List ℕ) (h : Header) (c : List ℕ) where
         → (v : Bool) × ((xs : List Call) → terminal P (lastOn b c xs) ≡ true → verdictOf b (lastOn b c xs) ≡ shown.Agreed v)
     pub of-calls : CallsOn
 
--- ---- What C sees: 0 for accepted or not refused; else a number that tells the refusal's number and place
+-- ---- What C sees
 
+-- 0 for accepted or not refused; else a number that tells the refusal's number and place.
 pub record CodesTell (b c : List ℕ) : Type 0 where
   pub check : (checkCode (checkOf b) ≡ 0) ↔ IsAccepted b
   pub start : (startCode (startOf b c) ≡ 0) ↔ (startOf b c ≡ started.Start)
@@ -210,10 +220,22 @@ pub record CodesTell (b c : List ℕ) : Type 0 where
   -- The place of a refusal of the check is below 65,536, so the code tells number and place.
   pub check-place : (n k : ℕ) → checkOf b ≡ Refused (refusal n k) → k < 65536
   pub check-tells : (n k m j : ℕ) → k < 65536 → j < 65536 → code (refusal n k) ≡ code (refusal m j) → (n ≡ m) × (k ≡ j)
+  -- The place of a refusal of another call is below 65,536 too, or it is the number that the call was given, which in C has 32
+  -- bits.
+  pub start-place : (n k : ℕ) → startOf b c ≡ started.Refused (refusal n k) → k < 65536
+  pub can-act-place : (r n k : ℕ) → enabledOf b c r ≡ answer.Refused (refusal n k) → (k < 65536) ⊎ (k ≡ r)
+  pub standstill-place : (n k : ℕ) → terminalOf b c ≡ answer.Refused (refusal n k) → k < 65536
+  pub verdict-place : (n k : ℕ) → verdictOf b c ≡ shown.Refused (refusal n k) → k < 65536
+  pub call-place : (x : Call) (n k : ℕ) → replyOf b c x ≡ refused n k → (k < 65536) ⊎ (x ≡ step k)
   pub call-tells : (n k m j : ℕ) → k < 4294967296 → j < 4294967296 → callCode (refusal n k) ≡ callCode (refusal m j) → (n ≡ m) × (k ≡ j)
 
 -- ---- What is proved of every docket
 
+-- The signed number that 16 bits v stand for.
+abbrev pub number16 : ℕ → ℤ
+number16 v = cond (ltb v 32768) (pos v) (pos v -ℤ pos 65536)
+
+-- The claims about a docket's bytes b, whatever they are.
 pub record Claims (b : List ℕ) : Type 0 where
   pub demand-1 : (c : List ℕ) → Demand1 b c
   pub demand-2 : Demand2 b
@@ -234,6 +256,9 @@ pub record Claims (b : List ℕ) : Type 0 where
   pub definitions : (h : Header) → SoundShape b h → (c : List ℕ) → length c ≡ h .sizes .states → AsPublished (protocolIn b h) c
   -- So are active, quiet, lowest, layered and spread.
   pub layer-words : (h : Header) → SoundShape b h → (c : List ℕ) → LayersAre (protocolIn b h) (layersIn b h) (weightIn b h) c
+  -- A leaf weight within its limits is the signed number that stands in the file as 16 bits v, and just these are within them.
+  pub weight-is : (v : ℕ) → v < 65536 → biased v ≤ 20000 → signed (biased v) ≡ number16 v
+  pub weight-within : (v : ℕ) → v < 65536 → (biased v ≤ 20000) ↔ (((pos 0 -ℤ pos 10000) ≤ℤ number16 v) × (number16 v ≤ℤ pos 10000))
   -- The leaf rule of kind 0 is document 01's, in the signed weights of leaf l.
   pub leaf-rule : (h : Header) (F : Facts) (l : ℕ) → let w = weightsOf (h .sizes) (sectionsOf b h .leaves) l in
       (leafCloses (protocolIn b h) F w ≡ true) ↔ LeafRule (protocolIn b h) F (λ k s. signed (w k s))

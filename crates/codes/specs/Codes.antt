@@ -1,4 +1,5 @@
 -- What C is handed: 0, or a refusal; and the values behind the out-parameters, which a refusal leaves as they were.
+use mathlib.Core.List.{List, [], _∷_}
 use Prim.Native.Nat.{ℕ, _+_, _*_}
 use Rattle.theory.specs.Bool.{bit}
 use Rattle.theory.specs.Machine.{Reply, stepped, ran, refused}
@@ -27,6 +28,7 @@ callCode r = r .number * 4294967296 + r .place
 
 -- ---- What each call returns: 0, or its refusal
 
+-- The check. 0 says that the docket is accepted, of the other calls that they are not refused.
 abbrev pub checkCode : Checked → ℕ
 checkCode (checked.Accepted f) = 0
 checkCode (checked.Refused r) = code r
@@ -51,6 +53,12 @@ replyCode (refused n k) = callCode (refusal n k)
 
 -- ---- What each call writes where `old` stood; a refusal leaves it there
 
+-- S R L N W M of an accepted docket.
+abbrev pub checkFigures : List ℕ → Checked → List ℕ
+checkFigures old (checked.Accepted f) =
+    f .states ∷ f .rules ∷ f .layers ∷ f .nodes ∷ f .spreads ∷ f .widest ∷ []
+checkFigures old (checked.Refused r) = old
+
 -- 1 for yes, 0 for no.
 abbrev pub yesNoValue : ℕ → YesNo → ℕ
 yesNoValue old (yesNo.Is t) = bit t
@@ -68,7 +76,7 @@ replySteps old stepped = old
 replySteps old (ran n rests) = n
 replySteps old (refused n k) = old
 
--- 1 for a run that rests, 0 for another.
+-- 1 for a run that rests, 0 for a run that does not.
 abbrev pub replyRests : ℕ → Reply → ℕ
 replyRests old stepped = old
 replyRests old (ran n rests) = bit rests

@@ -1,16 +1,14 @@
-// The numbers that C is handed for the answers of the check and of the machine's calls: what a call returns, 0 or a refusal,
-// and what it writes behind an out-parameter, where a refusal leaves what was there before.
+// The numbers that C is handed: refusals, yes and no, the figures of an accepted docket, and what the check, the start test
+// and a step return.
 ghost use mathlib.Core.Path.{_≡_};
+ghost use mathlib.Core.List.{[], _∷_};
 ghost use Rattle.theory.specs.Bool.{bit};
-ghost use Rattle.machine.specs.Code.{replyOfStep, replyOfRun};
-ghost use Rattle.codes.specs.Codes.{code, callCode, checkCode, startCode, yesNoCode, yesNoValue, verdictCode, verdictValue};
-ghost use Rattle.codes.specs.Codes.{replyCode, replySteps, replyRests};
+ghost use Rattle.machine.specs.Code.{replyOfStep};
+ghost use Rattle.codes.specs.Codes.{code, callCode, checkCode, startCode, replyCode};
 use checker::Checked;
-use machine::Ran;
+use checker::Summary;
 use machine::Started;
 use machine::Stepped;
-use machine::Verdict;
-use machine::YesNo;
 use shape::Refusal;
 
 // A refusal of the check: its number in front of 16 bits for its place.
@@ -28,10 +26,24 @@ pub fn call_refusal(r: Refusal) -> u64
 }
 
 // 1 for yes, 0 for no.
-fn as_number(t: bool) -> u64
+pub fn as_number(t: bool) -> u64
     ensures { λ n. ⌜ n ≡ bit t ⌝ }
 {
     if t { 1 } else { 0 }
+}
+
+// S R L N W M of an accepted docket.
+pub fn figures(f: Summary) -> [u64; 6]
+    ensures { λ x. ⌜ x ≡ f .states ∷ f .rules ∷ f .layers ∷ f .nodes ∷ f .spreads ∷ f .widest ∷ [] ⌝ }
+{
+    [
+        f.states as u64,
+        f.rules as u64,
+        f.layers as u64,
+        f.nodes as u64,
+        f.spreads,
+        f.widest as u64,
+    ]
 }
 
 // What the check returns.
@@ -54,48 +66,6 @@ pub fn start_code(a: Started) -> u64
     }
 }
 
-// What a question returns.
-pub fn yes_no_code(a: YesNo) -> u64
-    ensures { λ n. ⌜ n ≡ yesNoCode a ⌝ }
-{
-    match a {
-        YesNo::Is(_) => 0,
-        YesNo::Refused(r) => call_refusal(r),
-    }
-}
-
-// What a question writes where `old` stood: 1 for yes, 0 for no.
-pub fn yes_no_value(old: u64, a: YesNo) -> u64
-    ensures { λ n. ⌜ n ≡ yesNoValue old a ⌝ }
-{
-    match a {
-        YesNo::Is(t) => as_number(t),
-        YesNo::Refused(_) => old,
-    }
-}
-
-// What the verdict call returns.
-pub fn verdict_code(a: Verdict) -> u64
-    ensures { λ n. ⌜ n ≡ verdictCode a ⌝ }
-{
-    match a {
-        Verdict::Agreed(_) => 0,
-        Verdict::Mixed => 0,
-        Verdict::Refused(r) => call_refusal(r),
-    }
-}
-
-// What the verdict call writes where `old` stood: 0, 1, or 2 for mixed.
-pub fn verdict_value(old: u64, a: Verdict) -> u64
-    ensures { λ n. ⌜ n ≡ verdictValue old a ⌝ }
-{
-    match a {
-        Verdict::Agreed(v) => as_number(v),
-        Verdict::Mixed => 2,
-        Verdict::Refused(_) => old,
-    }
-}
-
 // What a step returns.
 pub fn step_code(a: Stepped) -> u64
     ensures { λ n. ⌜ n ≡ replyCode (replyOfStep a) ⌝ }
@@ -103,35 +73,5 @@ pub fn step_code(a: Stepped) -> u64
     match a {
         Stepped::Done => 0,
         Stepped::Refused(r) => call_refusal(r),
-    }
-}
-
-// What a run returns.
-pub fn run_code(a: Ran) -> u64
-    ensures { λ n. ⌜ n ≡ replyCode (replyOfRun a) ⌝ }
-{
-    match a {
-        Ran::After { steps: _, rests: _ } => 0,
-        Ran::Refused(r) => call_refusal(r),
-    }
-}
-
-// What a run writes where `old` stood: its steps.
-pub fn run_steps(old: u64, a: Ran) -> u64
-    ensures { λ n. ⌜ n ≡ replySteps old (replyOfRun a) ⌝ }
-{
-    match a {
-        Ran::After { steps, rests: _ } => steps as u64,
-        Ran::Refused(_) => old,
-    }
-}
-
-// What a run writes where `old` stood: 1 where it rests, else 0.
-pub fn run_rests(old: u64, a: Ran) -> u64
-    ensures { λ n. ⌜ n ≡ replyRests old (replyOfRun a) ⌝ }
-{
-    match a {
-        Ran::After { steps: _, rests } => as_number(rests),
-        Ran::Refused(_) => old,
     }
 }

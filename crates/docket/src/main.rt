@@ -3,12 +3,23 @@
 // A docket has at most 65,535 bytes, so a buffer that is full holds no docket: its length is unlike any header's, which is
 // 1, 0.
 use checker::Checked;
+use libc::STDERR_FILENO;
 use libc::STDIN_FILENO;
 use libc::STDOUT_FILENO;
+
+// Whether standard input is at its end: read_full stops at the end, and at a read that fails, in the same way.
+fn at_end() -> bool {
+    let mut one = [0u8; 1];
+    libc::read(STDIN_FILENO, &mut one) == 0
+}
 
 fn main() {
     let mut buffer = io::large_buffer();
     let n = io::read_full(STDIN_FILENO, &mut buffer);
+    if n < buffer.len() && !at_end() {
+        io::write_all(STDERR_FILENO, b"docket: standard input cannot be read\n");
+        return;
+    }
     let checked = checker::check(&buffer[..n]);
     match checked {
         Checked::Accepted(f) => {

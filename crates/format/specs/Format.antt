@@ -46,6 +46,7 @@ module _ (z : Sizes) where
   abbrev pub leavesLength : ℕ
   leavesLength = 4 * (z .leaves * z .states)
 
+-- The sections of the bytes b, at the offsets of h.
 abbrev pub sectionsOf : List ℕ → Header → Sections
 sectionsOf b h =
     record {
@@ -111,8 +112,8 @@ module _ (xs : List ℕ) (i : ℕ) where
 abbrev pub leafBits : ℕ → List ℕ → ℕ → ℕ → ℕ → ℕ
 leafBits n xs l e s = le16 xs (2 * (2 * (l * n) + e * n + s))
 
--- A signed weight y stands in the file as y modulo 65,536. Biased it is y + 10,000, which is 0 to 20,000 just where y is
--- -10,000 to 10,000.
+-- A signed weight y stands in the file as y modulo 65,536. Biased it is y + 10,000 modulo 65,536, which is 0 to 20,000 just
+-- where y is -10,000 to 10,000, and then y + 10,000 itself.
 abbrev pub biased : ℕ → ℕ
 biased bits = (bits + 10000) % 65536
 
@@ -122,6 +123,7 @@ endWeight z leaves l e s = biased (leafBits (z .states) leaves l e s)
 
 -- ---- What the sections stand for
 
+-- The protocol that states and rules stand for.
 abbrev pub protocolOf : Sizes → List ℕ → List ℕ → Protocol
 protocolOf z states rules =
     record {
@@ -135,9 +137,11 @@ protocolOf z states rules =
       input = isInput z states;
     }
 
+-- The layers of the rules.
 abbrev pub layersOf : Sizes → List ℕ → Layers
 layersOf z rules = record { count = z .layers; of = ruleLayer rules }
 
+-- The tree that the nodes stand for.
 abbrev pub treeOf : Sizes → List ℕ → Tree
 treeOf z nodes =
     record {

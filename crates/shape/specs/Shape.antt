@@ -23,6 +23,7 @@ refusal n k = record { number = n; place = k }
 
 -- ---- Tests of the header
 
+-- n is outside least to greatest.
 abbrev pub outside : ℕ → ℕ → ℕ → Bool
 outside least greatest n = ltb n least || ltb greatest n
 
@@ -54,6 +55,7 @@ nth ts k = getD ts k false
 
 -- ---- Properties of one record, of which tests 5 to 8 are made
 
+-- State s has a bit set besides 0 and 1.
 abbrev pub otherBits : Sizes → List ℕ → ℕ → Bool
 otherBits z states s = ltb 3 (flags z states s)
 
@@ -61,9 +63,11 @@ otherBits z states s = ltb 3 (flags z states s)
 abbrev pub samePair : List ℕ → ℕ → ℕ → Bool
 samePair rules r e = eqb (ruleP rules e) (ruleP rules r) && eqb (ruleQ rules e) (ruleQ rules r)
 
+-- Rule r is of layer l.
 abbrev pub inLayer : List ℕ → ℕ → ℕ → Bool
 inLayer rules l r = eqb (ruleLayer rules r) l
 
+-- Layer l's weight of state s, of n states, is over 1,000,000.
 abbrev pub tooLarge : ℕ → List ℕ → ℕ → ℕ → Bool
 tooLarge n layers l s = ltb 1000000 (layerWeight n layers l s)
 
@@ -120,6 +124,7 @@ shapeTests b h =
 unfoldable pub headerShape : List ℕ → Header → Shape
 headerShape b h = judge (λ n k. Refused (refusal n k)) (Sound h) (shapeTests b h)
 
+-- What tests 1 to 8 find of the bytes b.
 unfoldable pub shapeOf : List ℕ → Shape
 shapeOf b = headerShape b (headerOf b)
 

@@ -42,6 +42,7 @@ pub record SoundSections (z : Sizes) (x : Sections) : Type 0 where
   pub pairs-distinct : (e r : ℕ) → e < r → r < z .rules → ruleP (x .rules) e ≡ ruleP (x .rules) r → ruleQ (x .rules) e ≡ ruleQ (x .rules) r → ⊥
   pub weights-most : (l s : ℕ) → l < z .layers → s < z .states → layerWeight (z .states) (x .layers) l s ≤ 1000000
 
+-- The bytes b, with header h, pass tests 1 to 8.
 pub record SoundShape (b : List ℕ) (h : Header) : Type 0 where
   pub header : h ≡ headerOf b
   pub version : h .sizes .version ≡ 1

@@ -1,4 +1,5 @@
 // Tests 1 to 8 of a docket, which every call makes first. Any bytes may be given.
+// The limits of the counts are constants of the type Facts, as document 01's forms ask.
 ghost use mathlib.Core.Path.{_≡_};
 ghost use mathlib.Core.Bool.{not, _||_, _&&_};
 ghost use mathlib.Core.List.{[], _∷_};

@@ -63,7 +63,7 @@ module _ (P : Protocol) where
     -- A layer is active if one of its rules is enabled, and quiet if none is.
     pub active-is : (k : ℕ) → (active P L c k ≡ true) ↔ ((r : ℕ) × (r < P .rules) × (L .of r ≡ k) × (enabled P c r ≡ true))
     pub quiet-is : (k : ℕ) → (active P L c k ≡ false) ↔ ((r : ℕ) → r < P .rules → L .of r ≡ k → enabled P c r ≡ false)
-    -- The lowest layer is active, and none below it is; there is none just where c is terminal.
+    -- The lowest layer is the one that is active while none below it is; it is the number of layers just where c is terminal.
     pub lowest-is : (k : ℕ) → k < L .count → (lowest P L c ≡ k) ↔ ((active P L c k ≡ true) × QuietBelow P L k c)
     pub no-lowest : (lowest P L c ≡ L .count) ↔ (terminal P c ≡ true)
     -- A list is layered if just before each of its meetings every layer below that of its rule is quiet.
@@ -120,7 +120,7 @@ module _ (P : Protocol) where
     -- After every list there are as many agents as before.
     pub size-kept : (xs : List X) → size (last xs) ≡ size c
     -- A layer k once quiet together with all below it stays quiet through the rest of a layered list.
-    pub quiet-stays : (k : ℕ) (xs ys zs : List X) → isLayered ((xs ++ ys) ++ zs) ≡ true → QuietBelow P L (suc k) (last xs)
+    pub quiet-stays : (k : ℕ) (xs ys : List X) → isLayered (xs ++ ys) ≡ true → QuietBelow P L (suc k) (last xs)
         → QuietBelow P L (suc k) (last (xs ++ ys))
     -- A layered list makes no more meetings than the rest bound, size times the sum of the spreads; one that makes as
     -- many ends terminal.
@@ -131,10 +131,12 @@ module _ (P : Protocol) where
     pub rank-falls : (xs : List X) → isLayered xs ≡ true → rank P L w (last xs) + met xs ≤ rank P L w c
     pub rests-by-rank : (xs : List X) → isLayered xs ≡ true → met xs ≡ rank P L w c → terminal P (last xs) ≡ true
 
-  -- What consensus gives: from a start, any two lists, layered or not, that end terminal show one output.
+  -- What consensus gives: from input states only, whatever the size, any two lists, layered or not, that end terminal show one
+  -- output.
   abbrev pub OneOutput : List ℕ → {X : Type 0} → (List X → List ℕ) → Type 0
   OneOutput c {X} last =
-      Start P c → (xs ys : List X) → terminal P (last xs) ≡ true → terminal P (last ys) ≡ true → (v : Bool) × Shows P v (last xs) × Shows P v (last ys)
+      length c ≡ P .states → ((s : ℕ) → s < P .states → P .input s ≡ false → count c s ≡ 0)
+      → (xs ys : List X) → terminal P (last xs) ≡ true → terminal P (last ys) ≡ true → (v : Bool) × Shows P v (last xs) × Shows P v (last ys)
 
 -- ---- Lists of calls: say d x is what call x says on counts d, last xs are the counts that the calls xs leave, from counts c,
 -- and total xs is how many meetings they report
@@ -187,7 +189,7 @@ module _ (P : Protocol) (L : Layers) (c : List ℕ) (say : List ℕ → Call →
     pub step-layered : (xs : List Call) (r : ℕ)
         → layered P L c (made (xs ++ step r ∷ [])) ≡ (layered P L c (made xs) && imp (fires P (last xs) r) (eqb (L .of r) (lowest P L (last xs))))
 
--- What the ladder adds.
+-- What a ladder that passes adds to CallsMake.
 pub record CallsRest (P : Protocol) (L : Layers) (w : ℕ → ℕ → ℕ) (c : List ℕ) (say : List ℕ → Call → Reply) (last : List Call → List ℕ)
     (total : List Call → ℕ) : Type 0 where
   -- All of Rests, in the calls' own counts and totals.

@@ -82,6 +82,7 @@ module _ (P : Protocol) (F : Facts) (y : ℕ → ℕ → ℤ) where
   unfoldable pub lowerSum : ℕ → ℤ
   lowerSum k = signedSum (P .states) (λ s. cond (not (F .absent k s) && (F .present k s || ltZ (y k s) (pos 0))) (y k s) (pos 0))
 
+  -- The leaf rule.
   pub record LeafRule : Type 0 where
     -- For every rule not unused in run k, yk of the after pair is at most yk of the before pair.
     pub rules : (k : ℕ) → 1 ≤ k → k ≤ 2 → (r : ℕ) → r < P .rules → F .unused k r ≡ false → (y k (P .p′ r) +ℤ y k (P .q′ r)) ≤ℤ (y k (P .p r) +ℤ y k (P .q r))

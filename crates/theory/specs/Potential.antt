@@ -11,6 +11,7 @@ use Rattle.theory.specs.Weigh.{weigh}
 use Rattle.theory.specs.Protocol.{Protocol, count, pre, post}
 use Rattle.theory.specs.Tree.{takes, puts, isTrap, isSiphon}
 pub mod Runs
+pub mod Silent
 pub mod Laws
 pub mod Reached
 
@@ -21,8 +22,7 @@ countIn A c = weigh (λ s. bit (A s)) c
 module _ (P : Protocol) where
   -- Definition 4.9: the configuration d is potentially reachable from c through x, which says how often each rule fires.
   -- U is the set of the rules that fire.
-  -- The paper has silent transitions besides, from a pair to itself. One more in U leaves (a) and the U-traps and
-  -- U-siphons as they are, and only adds to (b) and (c): so the relation is the same without them.
+  -- The paper has silent transitions besides, from a pair to itself; Silent proves that they make no difference.
   pub record Potential (x : ℕ → ℕ) (c d : List ℕ) : Type 0 where
     pub sized : length d ≡ P .states
     -- (a) The flow equation of every state.

@@ -10,6 +10,7 @@ use Rattle.theory.specs.Below.{allBelow, firstBelow}
 use Rattle.theory.specs.Weigh.{weigh}
 pub mod Laws
 pub mod Lists
+pub mod Small
 
 -- Rule r < rules takes one agent from each of p r, q r (document 01: the before pair) and puts one into each of p′ r, q′
 -- r (the after pair).
@@ -95,7 +96,7 @@ module _ (P : Protocol) where
     pub enough : 2 ≤ size c
     pub inputs : (s : ℕ) → s < P .states → P .input s ≡ false → count c s ≡ 0
 
-  -- Whether state s is no input and holds an agent, as in no start.
+  -- Whether state s is no input and yet holds an agent.
   unfoldable pub unfit : List ℕ → ℕ → Bool
   unfit c s = not (P .input s) && ltb 0 (count c s)
 

@@ -10,13 +10,13 @@ use Rattle.theory.specs.Facts.{Facts, fresh}
 use Rattle.theory.specs.Tree.{Tree, Assumption, bad, children, ground, node}
 pub mod Laws
 
--- Children stand in order from node i on and end before node j, each on its own facts; R F i k: the child on F at i ends
--- before k.
+-- Children stand one behind the other from node i on, each on its own facts, and node j is the first behind them; R F i k:
+-- the child on F begins at i, and k is the first node behind it.
 abbrev pub InOrder : (Facts → ℕ → ℕ → Type 0) → List Facts → ℕ → ℕ → Type 0
 InOrder R [] i j = i ≡ j
 InOrder R (F ∷ Fs) i j = (k : ℕ) × R F i k × InOrder R Fs k j
 
--- One of the children, from node i on, is Q, and those before it stand in order.
+-- Q holds of one of the children, the first of which is at node i; those before it stand in order (R as above).
 abbrev pub InOne : (Facts → ℕ → ℕ → Type 0) → (Facts → ℕ → Type 0) → List Facts → ℕ → Type 0
 InOne R Q [] i = ⊥
 InOne R Q (F ∷ Fs) i = Q F i ⊎ ((k : ℕ) × R F i k × InOne R Q Fs k)
@@ -28,7 +28,7 @@ module _ (P : Protocol) (H : Assumption) (T : Tree) where
     pub fields : node P H T i ≡ bad → ⊥
     pub grounded : ground P H F (node P H T i) ≡ true
 
-  -- The subtree at node i, on the facts F, ends before node j.
+  -- The subtree at node i stands on the facts F, at most d nodes deep, and node j is the first behind it.
   abbrev pub Subtree : ℕ → Facts → ℕ → ℕ → Type 0
   Subtree zero F i j = ⊥
   Subtree (suc d) F i j = Stands F i × InOrder (Subtree d) (children P F (node P H T i)) (suc i) j
@@ -40,7 +40,8 @@ module _ (P : Protocol) (H : Assumption) (T : Tree) where
       ⊎ ((i < T .nodes) × (node P H T i ≡ bad) × (n ≡ 12))
       ⊎ ((i < T .nodes) × (node P H T i ≡ bad → ⊥) × (ground P H F (node P H T i) ≡ false) × (n ≡ 13))
 
-  -- The subtree at node i, on the facts F, fails by number n at node k: it is too deep there, or something is wrong there.
+  -- The subtree at node i, on the facts F, fails by number n at place k: all before k stands, and at k the tree is too deep, or
+  -- something is wrong there.
   abbrev pub Fails : ℕ → Facts → ℕ → ℕ → ℕ → Type 0
   Fails zero F i n k = (k ≡ i) × (n ≡ 12)
   Fails (suc d) F i n k =

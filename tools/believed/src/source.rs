@@ -122,6 +122,7 @@ fn read_file(path: &Path) -> io::Result<File> {
         ..File::default()
     };
     let mut comment: Vec<String> = Vec::new();
+    let mut module: Vec<String> = Vec::new();
     let mut current: Option<String> = None;
     let mut record: Option<usize> = None;
     for (at, full) in text.lines().enumerate() {
@@ -148,7 +149,8 @@ fn read_file(path: &Path) -> io::Result<File> {
         let code = without_comment(full).to_string();
         if line.starts_with("module _") {
             (current, record) = (None, None);
-            // What is said of a section's parameters is said of its first definition, too.
+            // The comment above a section serves where its first definition has none.
+            module = std::mem::take(&mut comment);
             continue;
         }
         let inside = record.is_some_and(|r| indent > r);
@@ -160,7 +162,9 @@ fn read_file(path: &Path) -> io::Result<File> {
             }
             Some((name, is_record)) if !inside => {
                 record = is_record.then_some(indent);
-                let comment = std::mem::take(&mut comment).join(" ");
+                let above = std::mem::take(&mut module);
+                let own = std::mem::take(&mut comment);
+                let comment = if own.is_empty() { above } else { own }.join(" ");
                 let lines = vec![code];
                 file.definitions.insert(
                     name.clone(),

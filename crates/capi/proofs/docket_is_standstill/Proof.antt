@@ -1,21 +1,38 @@
 -- `capi::docket_is_standstill` meets its contract: the numbers are those of the call's answer.
 use borrow.Author.Needs.{needs}
-use Rattle.codes.specs.Codes.Laws.{yes-no-same, yes-no-written}
+use Rattle.codes.specs.Codes.Laws.{questions}
 use Rattle.capi.proofs.docket_is_standstill.Statement.{statement}
 use Rattle.capi.proofs.docket_is_standstill.Tie as tie
 
 is-standstill-requires : tie.Need-is-standstill-requires
 is-standstill-requires c κs = search needs
 
-yes-no-value-requires : tie.Need-yes-no-value-requires
-yes-no-value-requires c κs = search needs
+enum-known-a : tie.Need-enum-known-a
+enum-known-a c = search needs
 
-yes-no-code-requires : tie.Need-yes-no-code-requires
-yes-no-code-requires c κs = search needs
+as-number-requires : tie.Need-as-number-requires
+as-number-requires c κs = search needs
+
+enum-known-a-2 : tie.Need-enum-known-a-2
+enum-known-a-2 c = search needs
+
+call-refusal-requires : tie.Need-call-refusal-requires
+call-refusal-requires c κs = search needs
 
 returns : tie.Need-returns
-returns c = search (yes-no-same, yes-no-written, needs)
+returns c = search (questions, needs)
+
+returns-2 : tie.Need-returns-2
+returns-2 c = search (questions, needs)
 
 pub docket-is-standstill-spec : {M : Type 1} → statement M
 docket-is-standstill-spec =
-    tie.close (tie.spec is-standstill-requires yes-no-value-requires yes-no-code-requires returns)
+    tie.close
+    (tie.spec
+    is-standstill-requires
+    enum-known-a
+    as-number-requires
+    enum-known-a-2
+    call-refusal-requires
+    returns
+    returns-2)

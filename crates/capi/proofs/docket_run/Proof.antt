@@ -1,34 +1,50 @@
 -- `capi::docket_run` meets its contract: the numbers are those of the call's answer.
 use borrow.Author.Needs.{needs}
-use Rattle.codes.specs.Codes.Laws.{reply-same, steps-written, rests-written}
+use Rattle.codes.specs.Codes.Laws.{runs}
 use Rattle.capi.proofs.docket_run.Statement.{statement}
 use Rattle.capi.proofs.docket_run.Tie as tie
 
 run-requires : tie.Need-run-requires
 run-requires c κs = search needs
 
-run-steps-requires : tie.Need-run-steps-requires
-run-steps-requires c κs = search needs
+enum-known-a : tie.Need-enum-known-a
+enum-known-a c = search needs
 
-run-rests-requires : tie.Need-run-rests-requires
-run-rests-requires c κs = search needs
+cast-steps : tie.Need-cast-steps
+cast-steps c = search needs
 
-run-code-requires : tie.Need-run-code-requires
-run-code-requires c κs = search needs
+as-number-requires : tie.Need-as-number-requires
+as-number-requires c κs = search needs
+
+enum-known-a-2 : tie.Need-enum-known-a-2
+enum-known-a-2 c = search needs
+
+call-refusal-requires : tie.Need-call-refusal-requires
+call-refusal-requires c κs = search needs
 
 same-length : tie.Need-same-length
 same-length c = search needs
 
 returns : tie.Need-returns
-returns c = (search (reply-same, needs), (search needs, (search (steps-written, needs), search (rests-written, needs))))
+returns c = (search (runs, needs), (search needs, (search (runs, needs), search (runs, needs))))
+
+same-length-2 : tie.Need-same-length-2
+same-length-2 c = search needs
+
+returns-2 : tie.Need-returns-2
+returns-2 c = (search (runs, needs), (search needs, (search (runs, needs), search (runs, needs))))
 
 pub docket-run-spec : {M : Type 1} → statement M
 docket-run-spec =
     tie.close
     (tie.spec
     run-requires
-    run-steps-requires
-    run-rests-requires
-    run-code-requires
+    enum-known-a
+    cast-steps
+    as-number-requires
+    enum-known-a-2
+    call-refusal-requires
     same-length
-    returns)
+    returns
+    same-length-2
+    returns-2)

@@ -8,6 +8,7 @@ use Rattle.claims.specs.Claims.{Rules, IsAccepted, Claims}
 use Rattle.claims.specs.Claims.Exact.{certified, laddered, demand-2}
 use Rattle.claims.specs.Claims.Says.{demand-1}
 use Rattle.claims.specs.Claims.Codes.{codes-tell}
+use Rattle.claims.specs.Claims.Weights.{weight-is, weight-within}
 use Rattle.claims.specs.Claims.Lists.{calls-on, demand-3, calls-fail}
 
 module _ (b : List ℕ) (a : IsAccepted b) where
@@ -28,5 +29,7 @@ claims b = record {
   layered-by = λ a. theorems (protocolIn b (headerOf b)) .of-ladder (laddered b (headerOf b) (keeps b a)) .layered-by;
   definitions = λ h sound. theorems (protocolIn b h) .as-published (sound .sections .formed);
   layer-words = λ h sound. theorems (protocolIn b h) .layers-are (sound .sections .formed) (sound .sections .partition) (weightIn b h);
+  weight-is = weight-is;
+  weight-within = weight-within;
   leaf-rule = λ h F l. theorems (protocolIn b h) .leaf-is F (weightsOf (h .sizes) (sectionsOf b h .leaves) l);
 }

@@ -18,7 +18,7 @@ use Rattle.format.specs.Format.{protocolIn, layersIn}
 use Rattle.format.specs.declared.Header.{Header}
 use Rattle.shape.specs.Shape.{refusal, shapeOf, byShape}
 use Rattle.shape.specs.Sound.{SoundShape}
-use Rattle.shape.specs.Sound.Laws.{shape-sound}
+use Rattle.shape.specs.Sound.Laws.{sound-shape, shape-sound}
 use Rattle.shape.specs.declared.Refusal.{Refusal}
 use Rattle.shape.specs.declared.Shape as shapes
 use Rattle.machine.specs.Calls.{startAnswer, enabledAnswer, terminalAnswer, verdictAs, verdictAnswer}
@@ -28,7 +28,7 @@ use Rattle.machine.specs.declared.Started.the-variants as started
 use Rattle.machine.specs.declared.YesNo.the-variants as answer
 use Rattle.machine.specs.declared.Verdict as verdicts
 use Rattle.machine.specs.declared.Verdict.the-variants as shown
-use Rattle.claims.specs.Claims.{CallSays, Unfit, passBack, Demand1}
+use Rattle.claims.specs.Claims.{CallSays, LowestUnfit, passBack, Demand1}
 use Rattle.claims.specs.Claims.Numbers.{shape-refusal-is, unchanged}
 
 -- ---- All calls alike
@@ -72,7 +72,7 @@ enough P c on = leb-true _ _ (and-elim (leb 2 (size c)) (leb (size c) 1000000) (
 
 module _ (b c : List ℕ) (P : Protocol) (on : admitted P c ≡ true) where
   -- The start test is at the lowest unfit state, or past the states.
-  unfit-test : (s : ℕ) → s < P .states → startTest P c ≡ s → Unfit b c P s
+  unfit-test : (s : ℕ) → s < P .states → startTest P c ≡ s → LowestUnfit b c P s
   unfolding startTest unfit
   unfit-test s l e =
       let here : unfit P c s ≡ true = ap (unfit P c) (sym e) ∙ first-passes (P .states) (unfit P c) (omega arith) in
@@ -89,7 +89,7 @@ module _ (b c : List ℕ) (P : Protocol) (on : admitted P c ≡ true) where
             omega arith;
       }
 
-  test-unfit : (s : ℕ) → Unfit b c P s → startTest P c ≡ s
+  test-unfit : (s : ℕ) → LowestUnfit b c P s → startTest P c ≡ s
   unfolding startTest unfit
   test-unfit s u =
       first-is (P .states) (unfit P c) s (omega (arith, u .state))
@@ -113,7 +113,7 @@ module _ (b c : List ℕ) (P : Protocol) (on : admitted P c ≡ true) where
           λ s. outside (omega (arith, t .1 s)),
         )
 
-    unfit-is : (s : ℕ) → (a ≡ started.Refused (refusal 22 s)) ↔ Unfit b c P s
+    unfit-is : (s : ℕ) → (a ≡ started.Refused (refusal 22 s)) ↔ LowestUnfit b c P s
     unfit-is s = (
       λ q. by-test (ltb (startTest P c) (P .states))
           (λ l.
@@ -170,6 +170,7 @@ module _ (P : Protocol) (good : WellFormed P) (c : List ℕ) (on : admitted P c 
 pub demand-1 : (b c : List ℕ) → Demand1 b c
 unfolding startOf startAnswer enabledOf enabledAnswer terminalOf terminalAnswer verdictOf verdictAnswer replyOf reply runReply
 demand-1 b c = record {
+  shape-sound-is = λ h. (sound-shape b h, shape-sound b h);
   shape-refusal-is = shape-refusal-is b;
   start =
       call-says b c (startOf b c) started.Refused _ refl _

@@ -3,16 +3,17 @@ use mathlib.Core.Path.{_≡_, refl, sym, ap, _∙_, subst}
 use mathlib.Core.Bool.{Bool, true, false, not, cond, _&&_, and-true}
 use mathlib.Core.List.{List, [], _∷_, _++_}
 use mathlib.Core.Logic.{by-cases}
-use Prim.Native.Nat.{ℕ, suc, _+_, _*_, _≤_}
+use Prim.Native.Nat.{ℕ, suc, _+_, _*_, _≤_, _<_}
 use native.Mathlib.Omega.{arith}
 use native.Mathlib.Decide.{decLt}
 use lib.ListN.{length}
 use lib.Dec.{eqb}
 use Rattle.theory.specs.Bool.{imp}
 use Rattle.theory.specs.Bool.Laws.{not-both, is-true, and-elim}
-use Rattle.theory.specs.Protocol.{Protocol, WellFormed, size, terminal, tried, Shows, Start, fires, after, meetings}
+use Rattle.theory.specs.Protocol.{Protocol, WellFormed, count, size, terminal, tried, Shows, Start, fires, after, meetings}
 use Rattle.theory.specs.Protocol.Laws.{enabled-pre, pre-enabled, count-fire, fire-moves, terminal-off, not-terminal-on, shows-is, verdict-is}
 use Rattle.theory.specs.Protocol.Laws.{mixed-is, start-test}
+use Rattle.theory.specs.Protocol.Small.{small-after, small-shows}
 use Rattle.theory.specs.Protocol.Lists.{tried-fires, tried-not, rule-fires, each, keeps, length-after, after-append, meetings-append, size-after}
 use Rattle.theory.specs.Ladder.{Layers, OrderedPartition, QuietBelow, lowest, layered, Laddered, spread, spreads, rank}
 use Rattle.theory.specs.Ladder.Handover.{handoverAt-fails, handoverAt-exact, handover-exact}
@@ -84,10 +85,18 @@ module _ (P : Protocol) (good : WellFormed P) where
   ws³-in-ws² : WS³ P → WS² P
   ws³-in-ws² w = record { termination = layered-terminates P (w .layered-termination); consensus = stronger (w .strong-consensus) }
 
--- Two terminal configurations that are reachable from a start show one output.
-agreeing : (P : Protocol) → Consensus P → (c : List ℕ) → Start P c → (d e : List ℕ) → Reaches P c d → Reaches P c e
-    → terminal P d ≡ true → terminal P e ≡ true → (v : Bool) × Shows P v d × Shows P v e
-agreeing P one c start d e r s x y = let v = one c start in (v .0, v .1 d r x, v .1 e s y)
+-- Two terminal configurations that lists lead to, from input states only, show one output.
+agreeing : (P : Protocol) → Consensus P → (c : List ℕ) → length c ≡ P .states → ((s : ℕ) → s < P .states → P .input s ≡ false → count c s ≡ 0)
+    → (rs ss : List ℕ) → terminal P (after P c rs) ≡ true → terminal P (after P c ss) ≡ true
+    → (v : Bool) × Shows P v (after P c rs) × Shows P v (after P c ss)
+agreeing P one c long inputs rs ss x y =
+    by-cases (decLt (size c) 2)
+    (λ l.
+    let v = small-shows P c l in
+    (v .0, subst (Shows P (v .0)) (sym (small-after P c l rs)) (v .1), subst (Shows P (v .0)) (sym (small-after P c l ss)) (v .1)))
+    (λ g.
+    let v = one c (record { sized = long; enough = omega arith; inputs = inputs }) in
+    (v .0, v .1 (after P c rs) (rs, refl) x, v .1 (after P c ss) (ss, refl) y))
 
 -- ---- Lists of calls on counts that pass
 
@@ -193,9 +202,8 @@ module _ (P : Protocol) {L : Layers} {w : ℕ → ℕ → ℕ} (lad : Laddered P
     rests : Rests P L w c (after P c) (meetings P c) (layered P L c)
     rests = record {
       size-kept = λ rs. size-after P (lad .formed) c rs long;
-      quiet-stays = λ k xs ys zs h q.
-          let front = and-elim _ _ (sym (layered-append P L c (xs ++ ys) zs) ∙ h) in
-          let rest = and-elim (layered P L c xs) (layered P L (after P c xs) ys) (sym (layered-append P L c xs ys) ∙ front .0) in
+      quiet-stays = λ k xs ys h q.
+          let rest = and-elim (layered P L c xs) (layered P L (after P c xs) ys) (sym (layered-append P L c xs ys) ∙ h) in
           subst (QuietBelow P L (suc k)) (sym (after-append P c xs ys))
           (quiet-layered P L (lad .formed) (lad .handover-passes) (suc k) (after P c xs) ys (length-after P c xs ∙ long) (rest .1) q);
       rest-bound = λ rs h. omega (arith, falls rs h, rank-is .bound);
@@ -224,21 +232,18 @@ module _ (P : Protocol) {L : Layers} {w : ℕ → ℕ → ℕ} (lad : Laddered P
     calls-rest = record {
       rests = record {
         size-kept = λ xs. ap size (to xs) ∙ numbers .size-kept (numbersOf P L c xs);
-        quiet-stays = λ k xs ys zs h q.
-            let d = lastCounts P L c (xs ++ ys) in
+        quiet-stays = λ k xs ys h q.
             let front = numbersOf-append P L c xs ys in
-            let split : numbersOf P L c ((xs ++ ys) ++ zs) ≡
-            (numbersOf P L c xs ++ numbersOf P L (lastCounts P L c xs) ys) ++ numbersOf P L d zs =
-            numbersOf-append P L c (xs ++ ys) zs ∙ ap (λ rs. rs ++ numbersOf P L d zs) front in
-            let quiet = numbers .quiet-stays k (numbersOf P L c xs) (numbersOf P L (lastCounts P L c xs) ys) (numbersOf P L d zs)
-            (sym (ap (layered P L c) split) ∙ h) (subst (QuietBelow P L (suc k)) (to xs) q) in
+            let quiet = numbers .quiet-stays k (numbersOf P L c xs) (numbersOf P L (lastCounts P L c xs) ys)
+            (sym (ap (layered P L c) front) ∙ h) (subst (QuietBelow P L (suc k)) (to xs) q) in
             subst (QuietBelow P L (suc k)) (sym (to (xs ++ ys) ∙ ap (after P c) front)) quiet;
         rest-bound = λ xs h. omega (arith, total xs, numbers .rest-bound (numbersOf P L c xs) h);
         rests = λ xs h e. ap (terminal P) (to xs) ∙ numbers .rests (numbersOf P L c xs) h (sym (total xs) ∙ e);
         rank-falls = λ xs h. omega (arith, total xs, ap (rank P L w) (to xs), numbers .rank-falls (numbersOf P L c xs) h);
         rests-by-rank = λ xs h e. ap (terminal P) (to xs) ∙ numbers .rests-by-rank (numbersOf P L c xs) h (sym (total xs) ∙ e);
       };
-      quiet-within = λ xs k us vs ws e h. numbers .quiet-stays k us vs ws (sym (ap (layered P L c) e) ∙ h);
+      quiet-within = λ xs k us vs ws e h.
+          numbers .quiet-stays k us vs (and-elim _ _ (sym (layered-append P L c (us ++ vs) ws) ∙ ap (layered P L c) (sym e) ∙ h) .0);
       enough = λ on xs limit l.
           let d = lastCounts P L c xs in
           let said = run-makes P (lad .formed) (lad .partition) c on xs limit in
@@ -287,10 +292,11 @@ theorems P = record {
   handover-exact = handover-is-exact P;
   calls-make = calls-make P;
   calls-refused = calls-refused P;
-  one-output = λ one c start rs ss. agreeing P one c start (after P c rs) (after P c ss) (rs, refl) (ss, refl);
-  calls-one-output = λ one L c start xs ys.
-      let to : (zs : List Call) → Reaches P c (lastCounts P L c zs) = λ zs. (numbersOf P L c zs, sym (lastCounts-after P L c zs)) in
-      agreeing P one c start (lastCounts P L c xs) (lastCounts P L c ys) (to xs) (to ys);
+  one-output = agreeing P;
+  calls-one-output = λ one L c long inputs xs ys x y.
+      let to = lastCounts-after P L c in
+      let v = agreeing P one c long inputs (numbersOf P L c xs) (numbersOf P L c ys) (ap (terminal P) (sym (to xs)) ∙ x) (ap (terminal P) (sym (to ys)) ∙ y) in
+      (v .0, subst (Shows P (v .0)) (sym (to xs)) (v .1), subst (Shows P (v .0)) (sym (to ys)) (v .2));
   potentially = reached P;
   stronger = stronger P;
   layered-terminates = layered-terminates P;

@@ -1,5 +1,5 @@
 -- The leaf rule on biased weights is document 01's on signed ones. Assumes nothing.
-use mathlib.Core.Path.{_≡_, refl}
+use mathlib.Core.Path.{_≡_, refl, ap}
 use mathlib.Core.Bool.{Bool, true, false, not, cond, _&&_, _||_}
 use mathlib.Core.Logic.{_↔_}
 use Prim.Native.Nat.{ℕ, zero, suc, _+_, _-_, _*_, _≤_, _<_}
@@ -19,16 +19,22 @@ use Rattle.theory.specs.Leaf.Tests.{shortfalls, additions, AtMost, leaf-
 
 -- ---- An integer is the difference of two numbers, one of which is 0
 
-abbrev plus : ℤ → ℕ
+abbrev pub plus : ℤ → ℕ
 plus (pos n) = n
 plus (negsuc n) = 0
 
-abbrev minus : ℤ → ℕ
+abbrev pub minus : ℤ → ℕ
 minus (pos n) = 0
 minus (negsuc n) = suc n
 
-sub-parts : (a b : ℕ) → (plus (subℕ a b) ≡ a - b) × (minus (subℕ a b) ≡ b - a)
+pub sub-parts : (a b : ℕ) → (plus (subℕ a b) ≡ a - b) × (minus (subℕ a b) ≡ b - a)
 sub-parts a b = by-test (ltb a b) (λ e. rw e (omega (arith, ltb-true a b e))) (λ e. rw e (omega (arith, ltb-false a b e)))
+
+pub parts-same : (a b : ℤ) → plus a ≡ plus b → minus a ≡ minus b → a ≡ b
+parts-same (pos a) (pos b) e f = ap pos e
+parts-same (pos a) (negsuc b) e f = absurd (omega arith)
+parts-same (negsuc a) (pos b) e f = absurd (omega arith)
+parts-same (negsuc a) (negsuc b) e f = let g : a ≡ b = omega arith in ap negsuc g
 
 add-parts : (a b : ℤ) → plus (a +ℤ b) + (minus a + minus b) ≡ minus (a +ℤ b) + (plus a + plus b)
 add-parts (pos a) (pos b) = omega arith
@@ -36,7 +42,7 @@ add-parts (pos a) (negsuc b) = omega (arith, sub-parts a (suc b))
 add-parts (negsuc a) (pos b) = omega (arith, sub-parts b (suc a))
 add-parts (negsuc a) (negsuc b) = omega arith
 
-le-parts : (a b : ℤ) → (a ≤ℤ b) ↔ (plus a + minus b ≤ plus b + minus a)
+pub le-parts : (a b : ℤ) → (a ≤ℤ b) ↔ (plus a + minus b ≤ plus b + minus a)
 le-parts (pos a) (pos b) = (λ h. omega (arith, leb→le a b (h .le)), λ h. record { le = le→leb a b (omega arith) })
 le-parts (pos a) (negsuc b) = (λ h. absurd (h .le), λ h. absurd (omega arith))
 le-parts (negsuc a) (pos b) = (λ h. omega arith, λ h. record { le = tt })
@@ -55,7 +61,7 @@ sum-parts (suc n) f = omega (arith, sum-parts n f, add-parts (signedSum n f) (f 
 
 -- ---- Weights, signed and biased
 
-weight-parts : (w : ℕ) → (plus (signed w) ≡ w - 10000) × (minus (signed w) ≡ 10000 - w)
+pub weight-parts : (w : ℕ) → (plus (signed w) ≡ w - 10000) × (minus (signed w) ≡ 10000 - w)
 weight-parts w = sub-parts w 10000
 
 pair-parts : (v w : ℕ) → plus (signed v +ℤ signed w) + 20000 ≡ minus (signed v +ℤ signed w) + (v + w)

@@ -1,7 +1,8 @@
-//! A second implementation of the docket check and of its machine.
+//! A second implementation of the docket check and of its machine, tested and not proved. It depends on nothing but
+//! Rust's standard library, so it checks dockets where the Rattle kit cannot be had.
 //!
 //! Sets and facts are arrays of bool, weights and their sums are signed numbers, and each test is a plain loop in the
-//! order of document 01, so that it can be laid beside its line there.
+//! order of docs/FORMAT.md, so that it can be laid beside its line there.
 
 mod docket;
 mod ladder;

@@ -1,6 +1,6 @@
 //! The parsed docket, tests 1 to 8, and the check as a whole.
 
-use super::{ladder, tree};
+use crate::{ladder, tree};
 
 /// What a refused call says.
 #[derive(Clone, Copy, Debug, PartialEq, Eq)]
@@ -88,13 +88,30 @@ pub fn check(docket: &[u8]) -> Result<Figures, Refusal> {
     })
 }
 
+impl Figures {
+    /// S, R, L, N, W and M, in this order.
+    pub fn numbers(&self) -> [u64; 6] {
+        let Figures {
+            states,
+            rules,
+            layers,
+            nodes,
+            spread_sum,
+            widest,
+        } = *self;
+        [states, rules, layers, nodes, spread_sum, widest]
+    }
+}
+
 /// The line that the program prints for these bytes.
 pub fn line(docket: &[u8]) -> String {
-    let numbers = match check(docket) {
-        Ok(f) => [f.states, f.rules, f.layers, f.nodes, f.spread_sum, f.widest],
-        Err(refusal) => return format!("refused {} {}\n", refusal.number, refusal.place),
-    };
-    format!("accepted {}\n", numbers.map(|number| number.to_string()).join(" "))
+    match check(docket) {
+        Ok(figures) => format!(
+            "accepted {}\n",
+            figures.numbers().map(|number| number.to_string()).join(" ")
+        ),
+        Err(refusal) => format!("refused {} {}\n", refusal.number, refusal.place),
+    }
 }
 
 /// Tests 1 to 8. Nodes and leaves are read and not tested.

@@ -1,6 +1,6 @@
 //! The tree: leaf weights (test 11), fields and grounds of the nodes (tests 12 and 13), and the widest set.
 
-use super::docket::{refuse, together, Docket, Leaf, Node, Refusal, Rule};
+use crate::docket::{refuse, together, Docket, Leaf, Node, Refusal, Rule};
 
 const GREATEST_DEPTH: usize = 40;
 
@@ -221,7 +221,7 @@ impl Facts {
 #[cfg(test)]
 mod tests {
     use super::*;
-    use crate::second::docket::{check, line, samples::*};
+    use crate::docket::{check, line, samples::*};
 
     /// Trees of the broadcast docket, and what the check says of them.
     fn trees(samples: &[(&str, &str)]) {

@@ -1,6 +1,6 @@
 //! The ladder: lowering (test 9), handover (test 10) and the sum of spreads.
 
-use super::docket::{parse, refuse, together, Docket, Refusal, Rule};
+use crate::docket::{parse, refuse, together, Docket, Refusal, Rule};
 
 /// Tests 1 to 8, then test 10 alone.
 pub fn handover(docket: &[u8]) -> Result<(), Refusal> {
@@ -68,7 +68,7 @@ pub(crate) fn spread_sum(docket: &Docket) -> u64 {
 #[cfg(test)]
 mod tests {
     use super::*;
-    use crate::second::docket::{line, samples::*};
+    use crate::docket::{line, samples::*};
 
     #[test]
     fn p3_equal_weights() {

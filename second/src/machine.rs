@@ -1,6 +1,6 @@
 //! The machine calls. Each makes tests 1 to 8 on the docket, then 20 and 21 on the counts.
 
-use super::docket::{parse, refuse, Docket, Refusal, Rule};
+use crate::docket::{parse, refuse, Docket, Refusal, Rule};
 
 /// The verdict of a group.
 #[derive(Clone, Copy, Debug, PartialEq, Eq)]
@@ -131,7 +131,7 @@ fn next_rule<'a>(docket: &'a Docket, counts: &[u32]) -> Option<&'a Rule> {
 #[cfg(test)]
 mod tests {
     use super::*;
-    use crate::second::docket::samples::*;
+    use crate::docket::samples::*;
 
     /// A run from these counts with this limit ends in these counts after these steps, at rest or not.
     fn runs(docket: &Docket, start: &[u32], limit: u32, end: &[u32], steps: u64, rests: bool) {

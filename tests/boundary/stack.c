@@ -1,0 +1,86 @@
+/*
+ * How much stack the functions of docket.h use: makes the calls on a stack of its own, filled with a pattern, and looks
+ * how far down the pattern is gone.
+ *
+ *     stack FILE.docket...
+ *
+ * The last line is '1 passed, 0 failed' where no call used more than DOCKET_STACK bytes.
+ */
+#define _XOPEN_SOURCE 700
+#include <stdint.h>
+#include <stdio.h>
+#include <stdlib.h>
+#include <string.h>
+#include <ucontext.h>
+
+#include "docket.h"
+
+enum { STACK = 1 << 20, PATTERN = 0xA5, MOST_BYTES = DOCKET_MAX_BYTES + 1 };
+
+static uint8_t stack[STACK];
+static uint8_t docket[MOST_BYTES];
+static size_t docket_len;
+static ucontext_t caller, callee;
+
+static void call_check(void)
+{
+    uint64_t figures[6];
+    docket_check(docket, docket_len);
+    docket_figures(docket, docket_len, figures);
+}
+
+/* Makes every call of the machine on a group of two workers in state 0. */
+static void call_machine(void)
+{
+    uint32_t counts[DOCKET_MAX_STATES] = {2};
+    size_t states = docket_states(docket);
+    uint64_t first = 0, second = 0;
+    docket_start_test(docket, docket_len, counts, states);
+    docket_can_act(docket, docket_len, counts, states, 0, &first);
+    docket_is_standstill(docket, docket_len, counts, states, &first);
+    docket_verdict(docket, docket_len, counts, states, &first);
+    docket_step(docket, docket_len, counts, states, 0);
+    docket_run(docket, docket_len, counts, states, 100, &first, &second);
+}
+
+/* The bytes of stack that the function and what it calls used. */
+static size_t used_by(void (*function)(void))
+{
+    size_t untouched = 0;
+    memset(stack, PATTERN, sizeof stack);
+    if (getcontext(&callee) != 0)
+        abort();
+    callee.uc_stack.ss_sp = stack;
+    callee.uc_stack.ss_size = sizeof stack;
+    callee.uc_link = &caller;
+    makecontext(&callee, function, 0);
+    if (swapcontext(&caller, &callee) != 0)
+        abort();
+    while (untouched < sizeof stack && stack[untouched] == PATTERN)
+        untouched++;
+    return sizeof stack - untouched;
+}
+
+static size_t greater(size_t a, size_t b) { return a > b ? a : b; }
+
+int main(int argc, char **argv)
+{
+    size_t check = 0, machine = 0;
+    for (int i = 1; i < argc; i++) {
+        FILE *f = fopen(argv[i], "rb");
+        if (f == NULL) {
+            perror(argv[i]);
+            return 2;
+        }
+        docket_len = fread(docket, 1, sizeof docket, f);
+        fclose(f);
+        check = greater(check, used_by(call_check));
+        uint32_t number = docket_check_number(docket_check(docket, docket_len));
+        if (number == 0 || number > 8)
+            machine = greater(machine, used_by(call_machine));
+    }
+    printf("docket_check and docket_figures used %zu bytes of stack, the calls of the machine %zu\n", check, machine);
+    int good = machine > 0 && greater(check, machine) <= DOCKET_STACK;
+    printf("%d passed, %d failed\n", good, !good);
+    return good ? 0 : 1;
+}

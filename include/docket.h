@@ -14,7 +14,7 @@
  * aligned as their types are. No pointer is null, also where a length is 0, and no two of them overlap.
  *
  * What a function does. It writes only where it says here; it keeps nothing between calls and allocates nothing. So the
- * functions may be called from several threads at once, each with its own counts and answers. They use about 30 KB of
+ * functions may be called from several threads at once, each with its own counts and answers. They use about 32 KB of
  * stack where a tree is 40 deep, else less; DOCKET_STACK bytes are enough. The library needs memcpy and memset, and no
  * other function from elsewhere.
  *

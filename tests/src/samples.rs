@@ -2,7 +2,7 @@
 
 use crate::calls::Call;
 use crate::make::{self, node};
-use second::{Docket, Leaf};
+use second::{Docket, Leaf, Node};
 
 /// A name, a docket's bytes and the line that the check's program prints.
 pub type Sample = (&'static str, Vec<u8>, &'static str);
@@ -58,6 +58,24 @@ fn exchange_layers(docket: &mut Docket) {
     docket.nodes.push(node(1, 1, 0));
     docket.weights.swap(0, 1);
     docket.rules.iter_mut().for_each(|rule| rule.layer = 1 - rule.layer);
+}
+
+/// A tree with a leaf that weighs -10,000 for every state at both ends. State 0 is present at the start, -20,000 for the
+/// upper sum, and state 1 absent at both ends; `first` and `last` stand around the nodes that say the latter.
+fn both_ends(first: Vec<Node>, last: Vec<Node>) -> Vec<u8> {
+    let weights = vec![-10_000; 2];
+    let closed = node(1, 1, 0);
+    changed(make::deep(1), |d| {
+        d.leaves.push(Leaf {
+            y1: weights.clone(),
+            y2: weights,
+        });
+        d.nodes = vec![node(4, 0, 0), closed.clone()];
+        d.nodes.extend(first);
+        d.nodes
+            .extend([node(4, 1, 1), node(4, 2, 1), node(0, 0, 0), closed.clone(), closed]);
+        d.nodes.extend(last);
+    })
 }
 
 /// Every limit of the format at its edge, on both sides.
@@ -152,6 +170,16 @@ pub fn edges() -> Vec<Sample> {
             "leaf weight -10,001",
             changed(broadcast(), |d| d.leaves.push(leaf(-10_001))),
             "refused 11 0",
+        ),
+        (
+            "leaf weights -10,000 at both ends, at most one worker at each",
+            both_ends(vec![node(3, 1, 0), node(3, 2, 0)], vec![]),
+            "refused 13 6",
+        ),
+        (
+            "leaf weights -10,000 at both ends, no worker at end 1",
+            both_ends(vec![node(3, 2, 0), node(4, 1, 0)], vec![node(1, 1, 0)]),
+            "accepted 2 1 1 10 1 0",
         ),
         ("depth 40", make::deep(40).bytes(), "accepted 2 1 1 40 1 0"),
         ("depth 41", make::deep(41).bytes(), "refused 12 40"),

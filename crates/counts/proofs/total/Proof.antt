@@ -3,8 +3,7 @@ use mathlib.Core.Path.{_≡_}
 use Prim.Native.Nat.{_≤_, _-_, _*_}
 use lib.ListN.{getD}
 use Rattle.theory.specs.Below.{sumBelow}
-use Rattle.theory.specs.Below.Scan.{sum-none, sum-more}
-use Rattle.counts.specs.Code.Laws.{sum-done}
+use Rattle.theory.specs.Below.Scan.{sum-none, sum-more, sum-done}
 use borrow.Author.Needs.{needs}
 use Rattle.counts.proofs.total.Statement.{statement}
 use Rattle.counts.proofs.total.Tie as tie

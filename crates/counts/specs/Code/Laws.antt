@@ -13,7 +13,6 @@ use lib.Seq.{getD-set-same, getD-set-other, set-getD, set-out}
 use Rattle.theory.specs.Bool.Laws.{by-test, not-both, is-false, and-intro, and-elim}
 use Rattle.theory.specs.Below.{sumBelow, firstBelow}
 use Rattle.theory.specs.Below.Laws.{below-suc, sum-same, first-le, first-is}
-use Rattle.theory.specs.Below.Scan.{at-end}
 use Rattle.theory.specs.Weigh.Laws.{weigh-sum, weigh-at}
 use Rattle.theory.specs.Protocol.{Protocol, count, size, lose, gain, enabled, fire}
 use Rattle.theory.specs.Ladder.{Layers, enabledIn, active, lowest}
@@ -82,9 +81,6 @@ unfolding Most
 most-fits c s h = omega (arith, h s)
 
 -- ---- Tests 20 and 21
-
-pub sum-done : (f : ℕ → ℕ) (i n t : ℕ) → t ≡ sumBelow i f → i ≤ n → n ≤ i → t ≡ sumBelow n f
-sum-done f = at-end (λ k. sumBelow k f)
 
 size-sum : (c : List ℕ) → size c ≡ sumBelow (length c) (λ s. getD c s 0)
 unfolding size

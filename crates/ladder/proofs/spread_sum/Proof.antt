@@ -4,8 +4,7 @@ use Prim.Native.Nat.{_≤_, _-_, _*_}
 use Rattle.theory.specs.Below.{sumBelow}
 use Rattle.theory.specs.Ladder.{spread}
 use Rattle.format.specs.Format.{layerWeight}
-use Rattle.theory.specs.Below.Scan.{sum-none, sum-more}
-use Rattle.ladder.specs.Code.Laws.{sum-done}
+use Rattle.theory.specs.Below.Scan.{sum-none, sum-more, sum-done}
 use borrow.Author.Needs.{needs}
 use Rattle.ladder.proofs.spread_sum.Statement.{statement}
 use Rattle.ladder.proofs.spread_sum.Tie as tie

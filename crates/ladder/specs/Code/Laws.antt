@@ -14,7 +14,7 @@ use mir.Val.{boolByte}
 use Rattle.theory.specs.Bool.{member, imp, bit}
 use Rattle.theory.specs.Bool.Laws.{by-test, not-both, is-false, and-elim, and-fails, imp-intro}
 use Rattle.theory.specs.Below.{Clear, allBelow, anyBelow, sumBelow, least, greatest}
-use Rattle.theory.specs.Below.Scan.{clear-more, at-end}
+use Rattle.theory.specs.Below.Scan.{clear-more}
 use Rattle.theory.specs.Below.Laws.{all-elim, all-intro, any-elim, any-intro}
 use Rattle.theory.specs.Protocol.{Protocol}
 use Rattle.theory.specs.Ladder.{Layers, lowersAt, isLower, preSequence, fits, handoverAt, spread, spreads}
@@ -322,13 +322,10 @@ module _ (f : ℕ → ℕ) where
   pub low-le-high : (n a b : ℕ) → a ≡ least n f → b ≡ greatest n f → a ≤ b
   low-le-high n a b d e = omega (arith, least-le-greatest n)
 
--- The loops end at the number of states, and of layers.
+-- The loops end at the number of states.
 pub spread-is : (v : ℕ → ℕ) (m n a b : ℕ) → n ≤ m → m ≤ n → a ≡ least n v → b ≡ greatest n v → b - a ≡ spread m v
 unfolding spread
 spread-is v m n a b l h d e = let f : n ≡ m = omega arith in rw (← f, ← d, ← e)
-
-pub sum-done : (f : ℕ → ℕ) (m n a : ℕ) → n ≤ m → m ≤ n → a ≡ sumBelow n f → a ≡ sumBelow m f
-sum-done f m n a l h e = at-end (λ k. sumBelow k f) n m a e l h
 
 -- The sum of the spreads, as theory has it.
 pub spreads-are : (P : Protocol) (L : Layers) (w : ℕ → ℕ → ℕ) (a : ℕ) → a ≡ sumBelow (L .count) (λ k. spread (P .states) (w k)) → a ≡ spreads P L w

@@ -64,3 +64,6 @@ first-at n f i l h e = first-hit n f i (f i) l h refl e
 -- A loop that counts up to n and knows x of each place it comes to: what it knows at the end.
 pub at-end : {A : Type 0} (f : ℕ → A) (i n : ℕ) (x : A) → x ≡ f i → i ≤ n → n ≤ i → x ≡ f n
 at-end f i n x h l m = h ∙ ap f (let e : i ≡ n = omega arith in e)
+
+pub sum-done : (f : ℕ → ℕ) (i n a : ℕ) → a ≡ sumBelow i f → i ≤ n → n ≤ i → a ≡ sumBelow n f
+sum-done f = at-end (λ k. sumBelow k f)

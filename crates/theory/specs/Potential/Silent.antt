@@ -81,27 +81,29 @@ module _ (P : Protocol) (m : ℕ) (a b : ℕ → ℕ) where
 
   -- ---- The flow equation
 
-  -- The sum over the rules of Q, of x times f, is that over the rules of P and a rest.
-  split : (x f : ℕ → ℕ) → sumBelow (P .rules + m) (λ r. x r * f r)
-      ≡ sumBelow (P .rules) (λ r. x r * f r) + sumBelow (P .rules + m - P .rules) (λ k. x (P .rules + k) * f (P .rules + k))
-  split x f = sum-to (P .rules) (P .rules + m) (λ r. x r * f r) (omega arith)
-
-  module _ (x : ℕ → ℕ) (s : ℕ) where
+  module _ (x : ℕ → ℕ) where
+    -- The part of a sum that the silent rules make.
     abbrev rest : (ℕ → ℕ) → ℕ
     rest f = sumBelow (P .rules + m - P .rules) (λ k. x (P .rules + k) * f (P .rules + k))
 
-    rest-same : rest (λ r. pre Q r s) ≡ rest (λ r. post Q r s)
-    rest-same = sum-same _ _ _ (λ k l. ap (λ n. x (P .rules + k) * n) (silent-same (P .rules + k) (omega arith) s))
+    -- The sum over the rules of Q, of x times f, is that over the rules of P, on which f is g, and the rest.
+    split : (f g : ℕ → ℕ) → ((r : ℕ) → r < P .rules → f r ≡ g r)
+        → sumBelow (P .rules + m) (λ r. x r * f r) ≡ sumBelow (P .rules) (λ r. x r * g r) + rest f
+    split f g same =
+        sum-to (P .rules) (P .rules + m) (λ r. x r * f r) (omega arith)
+        ∙ ap (λ n. n + rest f) (sum-same (P .rules) _ _ (λ r l. ap (λ n. x r * n) (same r l)))
 
-    pre-sum : sumBelow (P .rules + m) (λ r. x r * pre Q r s) ≡ sumBelow (P .rules) (λ r. x r * pre P r s) + rest (λ r. pre Q r s)
-    pre-sum =
-        split x (λ r. pre Q r s)
-        ∙ ap (λ n. n + rest (λ r. pre Q r s)) (sum-same (P .rules) _ _ (λ r l. ap (λ n. x r * n) (pre-same r l s)))
+    module _ (s : ℕ) where
+      rest-same : rest (λ r. pre Q r s) ≡ rest (λ r. post Q r s)
+      rest-same = sum-same _ _ _ (λ k l. ap (λ n. x (P .rules + k) * n) (silent-same (P .rules + k) (omega arith) s))
 
-    post-sum : sumBelow (P .rules + m) (λ r. x r * post Q r s) ≡ sumBelow (P .rules) (λ r. x r * post P r s) + rest (λ r. post Q r s)
-    post-sum =
-        split x (λ r. post Q r s)
-        ∙ ap (λ n. n + rest (λ r. post Q r s)) (sum-same (P .rules) _ _ (λ r l. ap (λ n. x r * n) (post-same r l s)))
+      -- What x takes from state s, and puts into it, in Q and in P, differs by the same rest.
+      flow-same : sumBelow (P .rules + m) (λ r. x r * pre Q r s) + sumBelow (P .rules) (λ r. x r * post P r s)
+          ≡ sumBelow (P .rules + m) (λ r. x r * post Q r s) + sumBelow (P .rules) (λ r. x r * pre P r s)
+      flow-same =
+          let pres = split (λ r. pre Q r s) (λ r. pre P r s) (λ r l. pre-same r l s) in
+          let posts = split (λ r. post Q r s) (λ r. post P r s) (λ r l. post-same r l s) in
+          omega (arith, pres, posts, rest-same)
 
   -- ---- Both ways
 
@@ -109,7 +111,7 @@ module _ (P : Protocol) (m : ℕ) (a b : ℕ → ℕ) where
   unfolding isTrap isSiphon
   without-silent x c d h = record {
     sized = h .sized;
-    flow = λ s l. omega (arith, h .flow s l, pre-sum x s, post-sum x s, rest-same x s);
+    flow = λ s l. omega (arith, h .flow s l, flow-same x s);
     traps = λ A t e r l on.
         sym (puts-same r l A)
         ∙ h .traps A
@@ -133,15 +135,7 @@ module _ (P : Protocol) (m : ℕ) (a b : ℕ → ℕ) where
   with-silent x c d h = record {
     sized = h .sized;
     flow = λ s l.
-        omega (
-          arith,
-          h .flow s l,
-          pre-sum (still x) s,
-          post-sum (still x) s,
-          rest-same (still x) s,
-          below (λ r. pre P r s),
-          below (λ r. post P r s),
-        );
+        omega (arith, h .flow s l, flow-same (still x) s, below (λ r. pre P r s), below (λ r. post P r s));
     traps = λ A t e r l on.
         puts-same r (fires r on) A
         ∙ h .traps A

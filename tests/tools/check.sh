@@ -402,9 +402,9 @@ EOF
   rm -rf "$work/repo/target"
   : >"$work/waits"
 }
-# Starts the tool beside this script, with the signal INT not ignored; its lines go to $1.out, what it says to $2.
+# Starts the tool beside this script, with no signal ignored; its lines go to $1.out, what it says to $2.
 begin() {
-  env --default-signal=INT PATH="$work/rt:$PATH" "$small_tool" good.docket >"$work/$1.out" 2>"$2" </dev/null &
+  env --default-signal=HUP,INT,TERM PATH="$work/rt:$PATH" "$small_tool" good.docket >"$work/$1.out" 2>"$2" </dev/null &
 }
 # Reads the first line of a pipe, or fails after half a minute.
 heard() { timeout 30 head -n 1 "$1" >"$work/heard"; }
@@ -416,9 +416,10 @@ build_ends() {
   timeout 5 sh -c 'echo >"$0"' "$work/go" || :
   return 1
 }
-# Waits for a use of the tool and keeps what it left, as try does.
+# Waits for a use of the tool, or ends it after a minute, and keeps what it left, as try does.
 finish() {
   status=0
+  timeout 60 tail -s 0.1 --pid="$2" -f /dev/null || kill -s KILL "$2"
   wait "$2" || status=$?
   cp "$work/$1.out" "$out"
   if [[ -f $work/$1.err ]]; then cp "$work/$1.err" "$err"; else : >"$err"; fi

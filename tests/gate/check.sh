@@ -6,21 +6,9 @@ root=$(pwd -P)
 work=$(cd "$(mktemp -d)" && pwd -P)
 # shellcheck disable=SC2046
 trap 'kill $(jobs -pr) 2>/dev/null || :; rm -rf "$work"' EXIT
-passed=0 failed=0 status=0
+. tests/holds.sh
 out=$work/out
-
-# Counts a test: $1 is its name, the rest a command that says whether it holds.
-holds() {
-  local name=$1
-  shift
-  if "$@"; then
-    passed=$((passed + 1))
-  else
-    failed=$((failed + 1))
-    echo "FAILED: $name (exit status $status)"
-    sed 's/^/  out: /' "$out"
-  fi
-}
+shown=("$out")
 
 mkdir -p "$work/repo/.ci" "$work/bin"
 cp "$root/.ci/run" "$work/repo/.ci/run"
@@ -114,5 +102,4 @@ holds 'a gate that is ended in its middle fails' fails
 holds 'and ends the part that runs' timeout 60 cat <&8
 kill "$part" 2>/dev/null || :
 
-echo "$passed passed, $failed failed"
-[[ $failed -eq 0 ]]
+sum

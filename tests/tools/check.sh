@@ -8,8 +8,9 @@ root=$(pwd -P)
 work=$(cd "$(mktemp -d)" && pwd -P)
 # shellcheck disable=SC2046
 trap 'kill $(jobs -pr) 2>/dev/null || :; rm -rf "$work"' EXIT
-passed=0 failed=0 status=0
+. tests/holds.sh
 out=$work/out err=$work/err
+shown=("$out" "$err")
 # Every temporary folder of the tool is made here, and at the end it is empty.
 export TMPDIR=$work/tmp
 mkdir "$TMPDIR"
@@ -22,20 +23,6 @@ done
 try() {
   status=0
   "$@" >"$out" 2>"$err" </dev/null || status=$?
-}
-
-# Counts a test: $1 is its name, the rest a command that says whether it holds.
-holds() {
-  local name=$1
-  shift
-  if "$@"; then
-    passed=$((passed + 1))
-  else
-    failed=$((failed + 1))
-    echo "FAILED: $name (exit status $status)"
-    sed 's/^/  out: /' "$out"
-    sed 's/^/  err: /' "$err"
-  fi
 }
 
 # Whether the last command ended with status $1, printed the lines $2, and nothing to standard error.
@@ -406,8 +393,21 @@ EOF
 begin() {
   env --default-signal=HUP,INT,TERM PATH="$work/rt:$PATH" "$small_tool" good.docket >"$work/$1.out" 2>"$2" </dev/null &
 }
-# Reads the first line of a pipe, or fails after half a minute.
-heard() { timeout 30 head -n 1 "$1" >"$work/heard"; }
+# Whether the build begins, and whether the use behind 6 says that it waits; or fails after half a minute.
+begun() { timeout 30 head -n 1 "$work/begun.fifo" >/dev/null; }
+waits() { local said && read -r -t 30 said <&6 && [[ $said == *'another build of the program is under way'* ]]; }
+# Starts a use that builds, and then one that waits for it. $1 is the subject of the tests.
+begin_both() {
+  waiting_rt
+  begin first "$work/first.err"
+  first=$!
+  exec 7<"$work/alive"
+  holds "$1: the first use builds" begun
+  begin second "$work/says"
+  second=$!
+  exec 6<"$work/says"
+  holds "$1: the second use waits" waits
+}
 # Whether the last process of the build ends. Where it does not, ends it, so that the tests go on.
 build_ends() {
   timeout 30 cat <&7 && return
@@ -425,33 +425,17 @@ finish() {
   if [[ -f $work/$1.err ]]; then cp "$work/$1.err" "$err"; else : >"$err"; fi
 }
 
-waiting_rt
-begin first "$work/first.err"
-first=$!
-exec 7<"$work/alive"
-holds 'the first use builds' heard "$work/begun.fifo"
-begin second "$work/says"
-second=$!
-holds 'the second use says something' heard "$work/says"
-holds 'the second use waits' grep -q 'another build of the program is under way' "$work/heard"
+begin_both 'two uses'
 echo >"$work/go"
 finish first "$first"
 holds 'the first use ends well' ended 0 "$line" 'the program is built'
 finish second "$second"
 holds 'the second use ends well' printed 0 "$line"
 holds 'rt was called once for both' built 1
-exec 7<&-
+exec 6<&- 7<&-
 
 for signal in INT TERM HUP; do
-  waiting_rt
-  begin first "$work/first.err"
-  first=$!
-  exec 7<"$work/alive"
-  holds "$signal: the first use builds" heard "$work/begun.fifo"
-  begin second "$work/says"
-  second=$!
-  exec 6<"$work/says"
-  holds "$signal: the second use waits" read -r -t 30 _ <&6
+  begin_both "$signal"
   kill -s "$signal" "$first"
   finish first "$first"
   holds "$signal: the first use says that it was interrupted" ended 2 '' 'docket: interrupted'
@@ -464,15 +448,7 @@ for signal in INT TERM HUP; do
   holds "$signal: the program stands" test -x "$program"
 done
 
-waiting_rt
-begin first "$work/first.err"
-first=$!
-exec 7<"$work/alive"
-holds 'a use that builds' heard "$work/begun.fifo"
-begin second "$work/says"
-second=$!
-exec 6<"$work/says"
-holds 'a use that waits' read -r -t 30 _ <&6
+begin_both 'an interrupt of the second'
 kill -s INT "$second"
 finish second "$second"
 timeout 30 cat <&6 >"$err" || :
@@ -485,5 +461,4 @@ holds 'the one that builds goes on' ended 0 "$line" 'the program is built'
 holds 'rt was called once' built 1
 
 holds 'no temporary folder is left' tidy
-echo "$passed passed, $failed failed"
-[[ $failed -eq 0 ]]
+sum

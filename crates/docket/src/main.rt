@@ -7,16 +7,12 @@ use libc::STDERR_FILENO;
 use libc::STDIN_FILENO;
 use libc::STDOUT_FILENO;
 
-// Whether standard input is at its end: read_full stops at the end, and at a read that fails, in the same way.
-fn at_end() -> bool {
-    let mut one = [0u8; 1];
-    libc::read(STDIN_FILENO, &mut one) == 0
-}
-
 fn main() {
     let mut buffer = io::large_buffer();
     let n = io::read_full(STDIN_FILENO, &mut buffer);
-    if n < buffer.len() && !at_end() {
+    // read_full stops at the end, and at a read that fails, in the same way: one more read answers 0 at the end alone.
+    let mut one = [0u8; 1];
+    if n < buffer.len() && libc::read(STDIN_FILENO, &mut one) != 0 {
         io::write_all(STDERR_FILENO, b"docket: standard input cannot be read\n");
         return;
     }

@@ -5,7 +5,7 @@ use mathlib.Core.List.{List}
 use Prim.Native.Nat.{ℕ}
 use lib.Dec.{ltb}
 use Rattle.theory.specs.Protocol as theory
-use Rattle.theory.specs.Protocol.{Protocol, enabled, terminal, verdict, startTest}
+use Rattle.theory.specs.Protocol.{Protocol, enabled, terminal, outputOf, startTest}
 use Rattle.theory.specs.Machine.{Call, Reply, refused, admit, reply, countsAfter}
 use Rattle.format.specs.Format.{protocolIn, layersIn}
 use Rattle.shape.specs.Shape.{refusal, shapeOf, byShape}
@@ -17,7 +17,7 @@ use Rattle.machine.specs.declared.Verdict.{Verdict}
 use Rattle.machine.specs.declared.Verdict.the-variants as shown
 
 -- The verdict: 0, 1 or mixed.
-abbrev pub verdictAs : theory.Verdict → Verdict
+abbrev pub verdictAs : theory.Output → Verdict
 verdictAs (theory.agreed v) = shown.Agreed v
 verdictAs theory.mixed = shown.Mixed
 
@@ -41,7 +41,7 @@ module _ (P : Protocol) (c : List ℕ) where
 
   -- The verdict of the counts, at a standstill or not.
   unfoldable pub verdictAnswer : Verdict
-  verdictAnswer = admit P c (λ n. shown.Refused (refusal n 0)) (verdictAs (verdict P c))
+  verdictAnswer = admit P c (λ n. shown.Refused (refusal n 0)) (verdictAs (outputOf P c))
 
 -- ---- Calls on counts c of a docket with bytes b
 

@@ -8,7 +8,7 @@ use Prim.Native.Nat.{ℕ, suc, _+_, _-_, _*_, _≤_, _<_}
 use lib.ListN.{length}
 use lib.Dec.{eqb}
 use Rattle.theory.specs.Bool.{imp}
-use Rattle.theory.specs.Protocol.{Protocol, agreed, mixed, count, size, pre, post, enabled, fire, terminal, Shows, shows, verdict, Start, fires}
+use Rattle.theory.specs.Protocol.{Protocol, agreed, mixed, count, size, pre, post, enabled, fire, terminal, Shows, shows, outputOf, Start, fires}
 use Rattle.theory.specs.Protocol.{after, meetings, EachTried, EachMeeting}
 use Rattle.theory.specs.Ladder.{Layers, OrderedPartition, active, QuietBelow, lowest, layered, Alone, Laddered, spread, spreads, rank}
 use Rattle.theory.specs.Tree.{Tree, next, takes, puts, isTrap, isSiphon, disagreement, treeAnswer}
@@ -48,8 +48,8 @@ module _ (P : Protocol) where
     -- c is a consensus configuration with output v if all its occupied states have that output; where it is none, there
     -- are two occupied states of different outputs.
     pub shows-is : (v : Bool) → (shows P v c ≡ true) ↔ Shows P v c
-    pub verdict-is : 0 < size c → (v : Bool) → (verdict P c ≡ agreed v) ↔ Shows P v c
-    pub mixed-is : (verdict P c ≡ mixed) ↔ ((s : ℕ) × (t : ℕ) × (0 < count c s) × (0 < count c t) × (P .output s ≡ false) × (P .output t ≡ true))
+    pub output-is : 0 < size c → (v : Bool) → (outputOf P c ≡ agreed v) ↔ Shows P v c
+    pub mixed-is : (outputOf P c ≡ mixed) ↔ ((s : ℕ) × (t : ℕ) × (0 < count c s) × (0 < count c t) × (P .output s ≡ false) × (P .output t ≡ true))
     -- A rule takes from a set if some state of the set is in its pre, and puts into it if one is in its post.
     pub takes-is : (A : ℕ → Bool) (r : ℕ) → (takes P A r ≡ true) ↔ ((s : ℕ) × (A s ≡ true) × (0 < pre P r s))
     pub puts-is : (A : ℕ → Bool) (r : ℕ) → (puts P A r ≡ true) ↔ ((s : ℕ) × (A s ≡ true) × (0 < post P r s))

@@ -36,10 +36,10 @@ pub record WellFormed (P : Protocol) : Type 0 where
   pub pairs-differ : (r : ℕ) → r < P .rules → P .p r ≡ P .p′ r → P .q r ≡ P .q′ r → ⊥
   pub some-input : (s : ℕ) × (s < P .states) × (P .input s ≡ true)
 
--- What a configuration shows: one output, 0 (false) or 1 (true), in all its occupied states; or both.
-pub data Verdict : Type 0 where
-  agreed : Bool → Verdict
-  mixed : Verdict
+-- The output of a configuration (document 01: its verdict): one, 0 (false) or 1 (true), in all its occupied states; or both.
+pub data Output : Type 0 where
+  agreed : Bool → Output
+  mixed : Output
 
 -- A configuration (document 01: a group) is a list with a count of agents (workers) for each state.
 abbrev pub count : List ℕ → ℕ → ℕ
@@ -86,9 +86,9 @@ module _ (P : Protocol) where
   unfoldable pub shows : Bool → List ℕ → Bool
   shows v c = allBelow (P .states) (λ s. imp (ltb 0 (count c s)) (Bool·beq (P .output s) v))
 
-  -- The verdict of a configuration, terminal or not. Where no state is occupied it is agreed false.
-  unfoldable pub verdict : List ℕ → Verdict
-  verdict c = cond (shows false c) (agreed false) (cond (shows true c) (agreed true) mixed)
+  -- The output of a configuration, terminal or not. Where no state is occupied it is agreed false.
+  unfoldable pub outputOf : List ℕ → Output
+  outputOf c = cond (shows false c) (agreed false) (cond (shows true c) (agreed true) mixed)
 
   -- A start (the paper: an initial configuration): two agents or more, in input states only.
   pub record Start (c : List ℕ) : Type 0 where

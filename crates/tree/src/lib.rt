@@ -116,7 +116,7 @@ fn walk_tree(states: &[u8], rules: &[u8], nodes: &[u8], leaves: &[u8], z: Sizes,
 }
 
 // What the tree of a docket refutes: run 1 ends with a state of output 0, and run 2 with one of output 1.
-fn docket_aim(states: &[u8], z: Sizes) -> Aim
+fn disagreement_aim(states: &[u8], z: Sizes) -> Aim
     ensures { λ a. ⌜ Disagrees z (now (states .entry)) a ⌝ }
 {
     let ones = format::flag_set(states, z, Flag::Output);
@@ -138,7 +138,7 @@ pub fn check_tree(states: &[u8], rules: &[u8], nodes: &[u8], leaves: &[u8], z: S
         (disagreement (protocolOf z (now (states .entry)) (now (rules .entry))) (weightsOf z (now (leaves .entry))))
         (treeOf z (now (nodes .entry))) ⌝ }
 {
-    let aim = docket_aim(states, z);
+    let aim = disagreement_aim(states, z);
     walk_tree(states, rules, nodes, leaves, z, aim)
 }
 

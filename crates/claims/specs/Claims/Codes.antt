@@ -11,7 +11,7 @@ use Rattle.theory.specs.Bool.Laws.{by-test}
 use Rattle.theory.specs.Judge.{Test, FirstFits}
 use Rattle.theory.specs.Judge.Laws.{fits-split, fits-none}
 use Rattle.theory.specs.Protocol as protocol
-use Rattle.theory.specs.Protocol.{enabled, terminal, verdict, startTest}
+use Rattle.theory.specs.Protocol.{enabled, terminal, outputOf, startTest}
 use Rattle.theory.specs.Subtree.Laws.{place-within}
 use Rattle.theory.specs.Machine.{Call, step, run, Reply, stepped, ran, refused, isSized, isWithin, admit, stepReply, runReply, reply}
 use Rattle.format.specs.Format.{headerOf, sectionsOf, protocolIn, layersIn}
@@ -175,10 +175,10 @@ module _ (b c : List ℕ) where
   verdict-place : verdictPlace (verdictOf b c) < 65536
   unfolding verdictOf verdictAnswer
   verdict-place =
-      by-answer b c shown.Refused (λ h. verdictAs (verdict (protocolIn b h) c)) (λ a. verdictPlace a < 65536) (λ r l. l)
-      (λ h sound. own (verdict (protocolIn b h) c))
+      by-answer b c shown.Refused (λ h. verdictAs (outputOf (protocolIn b h) c)) (λ a. verdictPlace a < 65536) (λ r l. l)
+      (λ h sound. own (outputOf (protocolIn b h) c))
     where
-      own : (v : protocol.Verdict) → verdictPlace (verdictAs v) < 65536
+      own : (v : protocol.Output) → verdictPlace (verdictAs v) < 65536
       own (protocol.agreed v) = omega arith
       own protocol.mixed = omega arith
 

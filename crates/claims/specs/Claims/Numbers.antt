@@ -12,7 +12,7 @@ use Rattle.theory.specs.Bool.Laws.{by-test, or-left, or-right, or-elim}
 use Rattle.theory.specs.Judge.{Test, place, judge, FirstFits}
 use Rattle.theory.specs.Judge.Laws.{refused-by, fits-refuses}
 use Rattle.theory.specs.Protocol as protocol
-use Rattle.theory.specs.Protocol.{Protocol, enabled, terminal, verdict, startTest, after}
+use Rattle.theory.specs.Protocol.{Protocol, enabled, terminal, outputOf, startTest, after}
 use Rattle.theory.specs.Protocol.Lists.{tried-not}
 use Rattle.theory.specs.Ladder.{Layers}
 use Rattle.theory.specs.Facts.{Facts, fresh}
@@ -182,15 +182,15 @@ module _ (b c : List ℕ) where
   unfolding terminalOf terminalAnswer isOneOf
   terminal-number = call-number answerNumber answer.Refused (λ h. answer.Is (terminal (protocolIn b h) c)) [] (λ r. refl) (λ h. refl)
 
-  shown-number : (v : protocol.Verdict) → verdictNumber (verdictAs v) ≡ 1
+  shown-number : (v : protocol.Output) → verdictNumber (verdictAs v) ≡ 1
   shown-number (protocol.agreed v) = refl
   shown-number protocol.mixed = refl
 
   pub verdict-number : isOneOf (verdictNumber (verdictOf b c)) callNumbers ≡ true
   unfolding verdictOf verdictAnswer isOneOf
   verdict-number =
-      call-number verdictNumber shown.Refused (λ h. verdictAs (verdict (protocolIn b h) c)) [] (λ r. refl)
-      (λ h. ap (λ n. isOneOf n callNumbers) (shown-number (verdict (protocolIn b h) c)))
+      call-number verdictNumber shown.Refused (λ h. verdictAs (outputOf (protocolIn b h) c)) [] (λ r. refl)
+      (λ h. ap (λ n. isOneOf n callNumbers) (shown-number (outputOf (protocolIn b h) c)))
 
   pub step-number : (r : ℕ) → isOneOf (replyNumber (replyOf b c (step r))) (callNumbers ++ 23 ∷ 24 ∷ []) ≡ true
   unfolding replyOf reply stepReply isOneOf

@@ -10,7 +10,7 @@ use lib.Dec.{leb, ltb}
 use Rattle.theory.specs.Bool.Laws.{by-test, not-both, is-false, and-elim, and-intro}
 use Rattle.theory.specs.Below.Laws.{first-le, first-is, first-passes, first-lowest}
 use Rattle.theory.specs.Protocol as theory
-use Rattle.theory.specs.Protocol.{Protocol, WellFormed, count, size, verdict, unfit, Shows, Start, startTest}
+use Rattle.theory.specs.Protocol.{Protocol, WellFormed, count, size, outputOf, unfit, Shows, Start, startTest}
 use Rattle.theory.specs.Machine.{step, run, stepReply, runReply, reply, isSized, isWithin, admitted, admit}
 use Rattle.theory.specs.Machine.Laws.{admitted-sized, step-fires, step-no-rule, step-not-enabled}
 use Rattle.theory.specs.Claims.Proved.{theorems}
@@ -138,30 +138,30 @@ mixed-not-agreed : (v : Bool) → shown.Mixed ≡ shown.Agreed v → ⊥
 mixed-not-agreed true q = let z : _≡_ {A = ℕ} 2 1 = ap codeIn q in omega arith
 mixed-not-agreed false q = let z : _≡_ {A = ℕ} 2 0 = ap codeIn q in omega arith
 
-module _ (P : Protocol) (good : WellFormed P) (c : List ℕ) (on : admitted P c ≡ true) (a : verdicts.Verdict) (e : a ≡ verdictAs (verdict P c)) where
-  shows-is : (v : Bool) → (verdict P c ≡ theory.agreed v) ↔ Shows P v c
-  shows-is = theorems P .as-published good c (admitted-sized P c on) .verdict-is (omega (arith, enough P c on))
+module _ (P : Protocol) (good : WellFormed P) (c : List ℕ) (on : admitted P c ≡ true) (a : verdicts.Verdict) (e : a ≡ verdictAs (outputOf P c)) where
+  shows-is : (v : Bool) → (outputOf P c ≡ theory.agreed v) ↔ Shows P v c
+  shows-is = theorems P .as-published good c (admitted-sized P c on) .output-is (omega (arith, enough P c on))
 
   agreed-same : (v w : Bool) → shown.Agreed v ≡ shown.Agreed w → v ≡ w
   agreed-same v w q = cc
 
   agreed-is : (v : Bool) → (a ≡ shown.Agreed v) ↔ Shows P v c
   agreed-is v = (
-    λ q. go (verdict P c) refl (sym e ∙ q),
+    λ q. go (outputOf P c) refl (sym e ∙ q),
     λ s. e ∙ ap verdictAs (shows-is v .1 s),
   )
     where
-      go : (x : theory.Verdict) → verdict P c ≡ x → verdictAs (verdict P c) ≡ shown.Agreed v → Shows P v c
+      go : (x : theory.Output) → outputOf P c ≡ x → verdictAs (outputOf P c) ≡ shown.Agreed v → Shows P v c
       go (theory.agreed w) u q = shows-is v .0 (u ∙ ap theory.agreed (agreed-same w v (sym (ap verdictAs u) ∙ q)))
       go theory.mixed u q = absurd (mixed-not-agreed v (sym (ap verdictAs u) ∙ q))
 
   mixed-is : (a ≡ shown.Mixed) ↔ ((v : Bool) → Shows P v c → ⊥)
   mixed-is = (
     λ q v s. mixed-not-agreed v (sym q ∙ agreed-is v .1 s),
-    λ none. go (verdict P c) refl none,
+    λ none. go (outputOf P c) refl none,
   )
     where
-      go : (x : theory.Verdict) → verdict P c ≡ x → ((v : Bool) → Shows P v c → ⊥) → a ≡ shown.Mixed
+      go : (x : theory.Output) → outputOf P c ≡ x → ((v : Bool) → Shows P v c → ⊥) → a ≡ shown.Mixed
       go (theory.agreed w) u none = absurd (none w (shows-is w .0 u))
       go theory.mixed u none = e ∙ ap verdictAs u
 

@@ -11,7 +11,7 @@ use lib.Dec.{ltb, eqb}
 use Rattle.theory.specs.Bool.{member, imp}
 use Rattle.theory.specs.Bool.Laws.{by-test, not-both, is-false, and-elim}
 use Rattle.theory.specs.Below.Laws.{all-same, first-is, first-passes, first-lowest}
-use Rattle.theory.specs.Protocol.{Protocol, WellFormed, count, size, enabled, fire, terminal, shows, verdict, unfit, startTest, fires, tried, after}
+use Rattle.theory.specs.Protocol.{Protocol, WellFormed, count, size, enabled, fire, terminal, shows, outputOf, unfit, startTest, fires, tried, after}
 use Rattle.theory.specs.Protocol.Laws.{terminal-off}
 use Rattle.theory.specs.Protocol.Lists.{tried-fires, tried-not, rule-fires}
 use Rattle.theory.specs.Ladder.{Layers, OrderedPartition, lowest, enabledIn}
@@ -191,17 +191,17 @@ module _ (b : List ℕ) (h : Header) (c states : List ℕ) (sound : SoundShape b
         (λ s l. rw (occupied-below s l, output-below s l) (imp-beq-true (ltb 0 (count c s)) (protocolIn b h .output s)))
 
     module _ (t : Bool) (a : Verdict) (e : t ≡ disjointOf occupied outputs) where
-      pub verdict-0 : t ≡ true → a ≡ shown.Agreed false → a ≡ verdictAs (verdict (protocolIn b h) c)
-      unfolding verdict
+      pub verdict-0 : t ≡ true → a ≡ shown.Agreed false → a ≡ verdictAs (outputOf (protocolIn b h) c)
+      unfolding outputOf
       verdict-0 d g = rw (sym shows-0 ∙ sym e ∙ d) g
 
       module _ (d : t ≡ false) (u : Bool) (f : u ≡ subsetOf occupied outputs) where
-        pub verdict-1 : u ≡ true → a ≡ shown.Agreed true → a ≡ verdictAs (verdict (protocolIn b h) c)
-        unfolding verdict
+        pub verdict-1 : u ≡ true → a ≡ shown.Agreed true → a ≡ verdictAs (outputOf (protocolIn b h) c)
+        unfolding outputOf
         verdict-1 v g = rw (sym shows-0 ∙ sym e ∙ d, sym shows-1 ∙ sym f ∙ v) g
 
-        pub verdict-mixed : u ≡ false → a ≡ shown.Mixed → a ≡ verdictAs (verdict (protocolIn b h) c)
-        unfolding verdict
+        pub verdict-mixed : u ≡ false → a ≡ shown.Mixed → a ≡ verdictAs (outputOf (protocolIn b h) c)
+        unfolding outputOf
         verdict-mixed v g = rw (sym shows-0 ∙ sym e ∙ d, sym shows-1 ∙ sym f ∙ v) g
 
 -- ---- The chosen rule

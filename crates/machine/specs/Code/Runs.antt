@@ -9,7 +9,7 @@ use lib.Dec.{leb, eqb}
 use lib.ListN.{length}
 use Rattle.theory.specs.Bool.Laws.{and-elim}
 use Rattle.theory.specs.Protocol.{Protocol, WellFormed, size, fire, terminal, after}
-use Rattle.theory.specs.Protocol.Laws.{Meeting, length-fire, size-fire}
+use Rattle.theory.specs.Protocol.Laws.{Firing, length-fire, size-fire}
 use Rattle.theory.specs.Protocol.Lists.{tried-fires, rule-fires}
 use Rattle.theory.specs.Ladder.{Layers, OrderedPartition}
 use Rattle.theory.specs.Machine.{ran, run, isSized, isWithin, admitted, chosen, runNumbers, runReply, countsAfter}
@@ -63,7 +63,7 @@ module _ (P : Protocol) (L : Layers) (limit : ℕ) (c : List ℕ) where
         let left : limit - k ≡ suc (limit - (k + 1)) = omega arith in
         let numbers : runNumbers P L (limit - k) d ≡ chosen P L d ∷ runNumbers P L (limit - (k + 1)) d′ =
         ap (λ n. runNumbers P L n d) left ∙ step-numbers P L d (limit - (k + 1)) t ∙ ap (λ x. chosen P L d ∷ runNumbers P L (limit - (k + 1)) x) (sym next) in
-        let meeting : Meeting P d (chosen P L d) = record { sized = g .sized; rule = s .0; on = s .1 } in
+        let firing : Firing P d (chosen P L d) = record { sized = g .sized; rule = s .0; on = s .1 } in
         record {
           within = omega arith;
           counts =
@@ -72,7 +72,7 @@ module _ (P : Protocol) (L : Layers) (limit : ℕ) (c : List ℕ) where
               (tried-fires P d (chosen P L d) (rule-fires P d (chosen P L d) (s .0) (s .1)) ∙ sym next);
           total = omega (arith, g .total, ap length numbers);
           sized = ap length next ∙ length-fire P d (chosen P L d) ∙ g .sized;
-          small = omega (arith, ap size next, size-fire P good d (chosen P L d) meeting, g .small);
+          small = omega (arith, ap size next, size-fire P good d (chosen P L d) firing, g .small);
         }
 
     done : admitted P c ≡ true → runNumbers P L (limit - k) d ≡ [] → Replies P L c (run limit) (ran k (eqb r (P .rules))) d

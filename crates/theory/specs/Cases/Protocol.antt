@@ -5,7 +5,7 @@ use mathlib.Core.List.{List, [], _∷_}
 use Prim.Native.Nat.{ℕ}
 use lib.ListN.{getD}
 use lib.Dec.{eqb, ltb}
-use Rattle.theory.specs.Protocol.{Protocol, agreed, mixed, enabled, fires, after, meetings, verdict, startTest}
+use Rattle.theory.specs.Protocol.{Protocol, agreed, mixed, enabled, fires, after, meetings, outputOf, startTest}
 use Rattle.theory.specs.Unfold.{meeting}
 
 -- The i-th number of a list, 0 behind its end.
@@ -55,8 +55,8 @@ majority = record {
 }
 
 -- The verdicts 0 and 1 where all occupied states have that output, else mixed.
-pub verdicts : (verdict majority (1 ∷ 0 ∷ 2 ∷ 0 ∷ []) ≡ agreed false) × (verdict majority (0 ∷ 0 ∷ 0 ∷ 2 ∷ []) ≡ agreed true)
-    × (verdict majority (1 ∷ 1 ∷ 0 ∷ 0 ∷ []) ≡ mixed)
+pub verdicts : (outputOf majority (1 ∷ 0 ∷ 2 ∷ 0 ∷ []) ≡ agreed false) × (outputOf majority (0 ∷ 0 ∷ 0 ∷ 2 ∷ []) ≡ agreed true)
+    × (outputOf majority (1 ∷ 1 ∷ 0 ∷ 0 ∷ []) ≡ mixed)
 unfolding meeting
 verdicts = (refl, refl, refl)
 

@@ -11,7 +11,7 @@ use lib.Dec.{eqb}
 use Rattle.theory.specs.Bool.{imp}
 use Rattle.theory.specs.Bool.Laws.{not-both, is-true, and-elim}
 use Rattle.theory.specs.Protocol.{Protocol, WellFormed, count, size, terminal, tried, Shows, Start, fires, after, meetings}
-use Rattle.theory.specs.Protocol.Laws.{enabled-pre, pre-enabled, count-fire, fire-moves, terminal-off, not-terminal-on, shows-is, verdict-is}
+use Rattle.theory.specs.Protocol.Laws.{enabled-pre, pre-enabled, count-fire, fire-moves, terminal-off, not-terminal-on, shows-is, output-is}
 use Rattle.theory.specs.Protocol.Laws.{mixed-is, start-test}
 use Rattle.theory.specs.Protocol.Small.{small-after, small-shows}
 use Rattle.theory.specs.Protocol.Lists.{tried-fires, tried-not, rule-fires, each, keeps, length-after, after-append, meetings-append, size-after}
@@ -48,7 +48,7 @@ module _ (P : Protocol) (good : WellFormed P) where
     fire-is = λ r l on s. omega (arith, count-fire P good c r (record { sized = long; rule = l; on = on }) s, enabled-pre P c r on s);
     terminal-is = (stays, alone);
     shows-is = shows-is P c long;
-    verdict-is = verdict-is P c long;
+    output-is = output-is P c long;
     mixed-is = mixed-is P c long;
     takes-is = takes-is P;
     puts-is = puts-is P;

@@ -14,7 +14,7 @@ use Rattle.theory.specs.Bool.Laws.{not-both, is-false, is-true, and-elim
 use Rattle.theory.specs.Below.{anyBelow}
 use Rattle.theory.specs.Below.Laws.{all-elim, all-intro, all-fails, any-elim, any-fails, length-table, getD-table, table}
 use Rattle.theory.specs.Protocol.{Protocol, WellFormed, count, pre, enabled, fire}
-use Rattle.theory.specs.Protocol.Laws.{Meeting, enabled-pre, pre-enabled, count-fire}
+use Rattle.theory.specs.Protocol.Laws.{Firing, enabled-pre, pre-enabled, count-fire}
 use Rattle.theory.specs.Ladder.{Layers, isLower, preSequence, fits, handoverAt, handover, active, QuietBelow, Broken}
 use Rattle.theory.specs.Ladder.Active.{active-elim, active-intro}
 
@@ -24,7 +24,7 @@ module _ (P : Protocol) (L : Layers) (good : WellFormed P) where
   rule-enabled c r l h = pre-enabled P c r h (good .p-lt r l) (good .q-lt r l)
 
   -- A rule v that fits s and u is enabled wherever s is enabled and u is enabled after s.
-  fits-enabled : (c : List ℕ) (s u v : ℕ) → Meeting P c s → v < P .rules → fits P s u v ≡ true → enabled P (fire P c s) u ≡ true → enabled P c v ≡ true
+  fits-enabled : (c : List ℕ) (s u v : ℕ) → Firing P c s → v < P .rules → fits P s u v ≡ true → enabled P (fire P c s) u ≡ true → enabled P c v ≡ true
   unfolding fits
   fits-enabled c s u v m hv f u-on =
       rule-enabled c v hv
@@ -89,7 +89,7 @@ module _ (P : Protocol) (L : Layers) (good : WellFormed P) where
         on : enabled P c s ≡ true
         on = rule-enabled c s rule (λ i l. omega (arith, counts i l))
 
-        m : Meeting P c s
+        m : Firing P c s
         m = record { sized = long; rule = rule; on = on }
 
         u-on : enabled P (fire P c s) u ≡ true
@@ -127,6 +127,6 @@ module _ (P : Protocol) (L : Layers) (good : WellFormed P) where
 
 module _ (P : Protocol) (L : Layers) (good : WellFormed P) (passes : handover P L ≡ true) where
   -- Where all layers below that of a rule are quiet, they are so after its meeting.
-  pub quiet-fire : (c : List ℕ) (r : ℕ) → Meeting P c r → QuietBelow P L (L .of r) c → QuietBelow P L (L .of r) (fire P c r)
+  pub quiet-fire : (c : List ℕ) (r : ℕ) → Firing P c r → QuietBelow P L (L .of r) c → QuietBelow P L (L .of r) (fire P c r)
   quiet-fire c r m quiet j l =
       is-false _ (λ e. handover-exact P L good .0 passes r (m .rule) (c, m .sized, record { quiet = quiet; on = m .on; then-active = (j, l, e) }))

@@ -16,7 +16,7 @@ use Rattle.theory.specs.Below.Laws.{all-elim, sum-to, least-le, le-great
 use Rattle.theory.specs.Weigh.{weigh}
 use Rattle.theory.specs.Weigh.Laws.{weigh-mono, weigh-const}
 use Rattle.theory.specs.Protocol.{Protocol, size, fire, terminal}
-use Rattle.theory.specs.Protocol.Laws.{Meeting, length-fire, weigh-fire, size-fire, meeting-not-terminal}
+use Rattle.theory.specs.Protocol.Laws.{Firing, length-fire, weigh-fire, size-fire, firing-not-terminal}
 use Rattle.theory.specs.Ladder.{Layers, OrderedPartition, lowersAt, lowering, Laddered, lowest, spread, spreads, spreadsAbove, rankAt, rank}
 use Rattle.theory.specs.Ladder.Active.{active-elim, lowest-quiet, lowest-active, not-terminal-lowest}
 use Rattle.theory.specs.Ladder.Handover.{quiet-fire}
@@ -81,7 +81,7 @@ module _ (P : Protocol) (L : Layers) (w : ℕ → ℕ → ℕ) where
 
 module _ (P : Protocol) {L : Layers} {w : ℕ → ℕ → ℕ} (lad : Laddered P L w) where
   -- A meeting lowers its layer's weight.
-  pub weigh-falls : (c : List ℕ) (r : ℕ) → Meeting P c r → weigh (w (L .of r)) (fire P c r) < weigh (w (L .of r)) c
+  pub weigh-falls : (c : List ℕ) (r : ℕ) → Firing P c r → weigh (w (L .of r)) (fire P c r) < weigh (w (L .of r)) c
   unfolding lowering lowersAt
   weigh-falls c r m =
       let low : lowersAt P L w r ≡ true = all-elim _ _ (lad .lowering-passes) r (m .rule) in
@@ -89,7 +89,7 @@ module _ (P : Protocol) {L : Layers} {w : ℕ → ℕ → ℕ} (lad : Laddered P
       omega (arith, k .1, k .2, ltb-true)
 
   -- Rule r of the lowest layer that has an enabled rule makes a meeting at c.
-  module _ (c : List ℕ) (r : ℕ) (m : Meeting P c r) (low : L .of r ≡ lowest P L c) where
+  module _ (c : List ℕ) (r : ℕ) (m : Firing P c r) (low : L .of r ≡ lowest P L c) where
     lowest-rises : lowest P L c ≤ lowest P L (fire P c r)
     lowest-rises =
         let d = fire P c r in
@@ -123,7 +123,7 @@ module _ (P : Protocol) {L : Layers} {w : ℕ → ℕ → ℕ} (lad : Laddered P
         lighter = rw low at (weigh-falls c r m)
 
         going : terminal P c ≡ false
-        going = meeting-not-terminal P c r m
+        going = firing-not-terminal P c r m
 
         leasts : size d * least (P .states) (w i) ≡ size c * least (P .states) (w i)
         leasts = ap (λ n. n * least (P .states) (w i)) same

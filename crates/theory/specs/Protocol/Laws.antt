@@ -16,7 +16,7 @@ use Rattle.theory.specs.Below.Laws.{all-elim, all-intro, all-fails, firs
 use Rattle.theory.specs.Weigh.{weigh}
 use Rattle.theory.specs.Weigh.Laws.{weigh-set, weigh-some, weigh-one, occupied-lt}
 use Rattle.theory.specs.Protocol.{Protocol, WellFormed, agreed, mixed, count, size, lose, gain, pre, post, enabled, fire, terminal, Shows}
-use Rattle.theory.specs.Protocol.{shows, verdict, Start, unfit, startTest}
+use Rattle.theory.specs.Protocol.{shows, outputOf, Start, unfit, startTest}
 
 -- ---- One agent less, one agent more
 
@@ -140,13 +140,13 @@ module _ (P : Protocol) (c : List ℕ) (r : ℕ) where
   length-fire = simp length-set
 
 module _ (P : Protocol) where
-  -- Rule r makes a meeting at c.
-  pub record Meeting (c : List ℕ) (r : ℕ) : Type 0 where
+  -- Rule r fires at c (document 01: it makes a meeting).
+  pub record Firing (c : List ℕ) (r : ℕ) : Type 0 where
     pub sized : length c ≡ P .states
     pub rule : r < P .rules
     pub on : enabled P c r ≡ true
 
-module _ (P : Protocol) (good : WellFormed P) (c : List ℕ) (r : ℕ) (m : Meeting P c r) where
+module _ (P : Protocol) (good : WellFormed P) (c : List ℕ) (r : ℕ) (m : Firing P c r) where
   -- Some weight stays: before the meeting there is that and the before pair's, after it that and the after pair's.
   pub weigh-fire : (w : ℕ → ℕ) → (k : ℕ) × (weigh w c ≡ k + (w (P .p r) + w (P .q r))) × (weigh w (fire P c r) ≡ k + (w (P .p′ r) + w (P .q′ r)))
   unfolding fire
@@ -195,7 +195,7 @@ module _ (P : Protocol) (good : WellFormed P) (c : List ℕ) (r : ℕ) (m : Meet
 
 -- ---- Terminal, and the output shown
 
--- The verdict by its two tests: a, whether every occupied state has output 0, and b, whether every one has output 1.
+-- The output by its two tests: a, whether every occupied state has output 0, and b, whether every one has output 1.
 agreed-by : (a b v : Bool) → cond a (agreed false) (cond b (agreed true) mixed) ≡ agreed v → cond v b a ≡ true
 agreed-by true b true h = cc
 agreed-by true b false h = refl
@@ -215,8 +215,8 @@ module _ (P : Protocol) (c : List ℕ) where
   terminal-off t r h = not-true _ (all-elim _ _ t r h)
 
   -- A configuration at which a rule makes a meeting is not terminal.
-  pub meeting-not-terminal : (r : ℕ) → Meeting P c r → terminal P c ≡ false
-  meeting-not-terminal r m = is-false _ (λ t. not-both (m .on) (terminal-off t r (m .rule)))
+  pub firing-not-terminal : (r : ℕ) → Firing P c r → terminal P c ≡ false
+  firing-not-terminal r m = is-false _ (λ t. not-both (m .on) (terminal-off t r (m .rule)))
 
   -- A configuration that is not terminal enables a rule.
   pub not-terminal-on : terminal P c ≡ false → (r : ℕ) × (r < P .rules) × (enabled P c r ≡ true)
@@ -243,24 +243,24 @@ module _ (P : Protocol) (c : List ℕ) where
     shows-not : (v : Bool) (s : ℕ) → 0 < count c s → P .output s ≡ not v → shows P v c ≡ false
     shows-not v s l o = is-false _ (λ e. not-same v (sym (shows-is long v .0 e s l) ∙ o))
 
-    verdict-shows : (v : Bool) → verdict P c ≡ agreed v → shows P v c ≡ true
-    unfolding verdict
-    verdict-shows false = agreed-by (shows P false c) (shows P true c) false
-    verdict-shows true = agreed-by (shows P false c) (shows P true c) true
+    output-shows : (v : Bool) → outputOf P c ≡ agreed v → shows P v c ≡ true
+    unfolding outputOf
+    output-shows false = agreed-by (shows P false c) (shows P true c) false
+    output-shows true = agreed-by (shows P false c) (shows P true c) true
 
-    pub verdict-is : 0 < size c → (v : Bool) → (verdict P c ≡ agreed v) ↔ Shows P v c
-    unfolding verdict size
-    verdict-is some v = (λ h. shows-is long v .0 (verdict-shows v h), back v)
+    pub output-is : 0 < size c → (v : Bool) → (outputOf P c ≡ agreed v) ↔ Shows P v c
+    unfolding outputOf size
+    output-is some v = (λ h. shows-is long v .0 (output-shows v h), back v)
       where
         o : (s : ℕ) × (0 < 1 * count c s)
         o = weigh-some (λ _. 1) c some
 
-        back : (v : Bool) → Shows P v c → verdict P c ≡ agreed v
+        back : (v : Bool) → Shows P v c → outputOf P c ≡ agreed v
         back false h = rw (shows-is long false .1 h)
         back true h = rw (shows-not false (o .0) (omega (arith, o .1)) (h (o .0) (omega (arith, o .1))), shows-is long true .1 h)
 
-    pub mixed-is : (verdict P c ≡ mixed) ↔ ((s : ℕ) × (t : ℕ) × (0 < count c s) × (0 < count c t) × (P .output s ≡ false) × (P .output t ≡ true))
-    unfolding verdict
+    pub mixed-is : (outputOf P c ≡ mixed) ↔ ((s : ℕ) × (t : ℕ) × (0 < count c s) × (0 < count c t) × (P .output s ≡ false) × (P .output t ≡ true))
+    unfolding outputOf
     mixed-is = (
       λ h.
           let n = mixed-by (shows P false c) (shows P true c) h in

@@ -10,7 +10,7 @@ use borrow.Author.Tests.{ltb-true, lt-ltb}
 use Rattle.theory.specs.Bool.{bit}
 use Rattle.theory.specs.Bool.Laws.{by-test, not-both, and-elim, and-intro}
 use Rattle.theory.specs.Protocol.{Protocol, WellFormed, size, enabled, fire, fires, tried, after, meetings, EachMeeting}
-use Rattle.theory.specs.Protocol.Laws.{Meeting, length-fire, size-fire}
+use Rattle.theory.specs.Protocol.Laws.{Firing, length-fire, size-fire}
 
 module _ (P : Protocol) where
   -- ---- One number
@@ -23,7 +23,7 @@ module _ (P : Protocol) where
   unfolding tried
   tried-not c r e = rw (e, tried)
 
-  pub meeting : (c : List ℕ) (r : ℕ) → length c ≡ P .states → fires P c r ≡ true → Meeting P c r
+  pub meeting : (c : List ℕ) (r : ℕ) → length c ≡ P .states → fires P c r ≡ true → Firing P c r
   unfolding fires
   meeting c r l e = let s = and-elim _ _ e in record { sized = l; rule = ltb-true _ _ (s .0); on = s .1 }
 
@@ -64,7 +64,7 @@ module _ (P : Protocol) where
 
     module _ (I : List ℕ → Type 0) where
       -- What each meeting of kind Q hands on, the list hands on, and each of its meetings is of kind R.
-      pub forward : ((c : List ℕ) (r : ℕ) → Meeting P c r → Q c r → I c → I (fire P c r) × R c r)
+      pub forward : ((c : List ℕ) (r : ℕ) → Firing P c r → Q c r → I c → I (fire P c r) × R c r)
           → (c rs : List ℕ) → length c ≡ P .states → EachMeeting P Q c rs → I c → I (after P c rs) × EachMeeting P R c rs
       unfolding after
       forward step c [] l q i = (i, tt)
@@ -82,7 +82,7 @@ module _ (P : Protocol) where
 
       -- What each meeting of kind Q hands back, from the configuration after it to the one before, the list hands back,
       -- and each of its meetings is of kind R.
-      pub backward : ((c : List ℕ) (r : ℕ) → Meeting P c r → Q c r → I (fire P c r) → I c × R c r)
+      pub backward : ((c : List ℕ) (r : ℕ) → Firing P c r → Q c r → I (fire P c r) → I c × R c r)
           → (c rs : List ℕ) → length c ≡ P .states → EachMeeting P Q c rs → I (after P c rs) → I c × EachMeeting P R c rs
       unfolding after
       backward step c [] l q i = (i, tt)
@@ -101,12 +101,12 @@ module _ (P : Protocol) where
 
   module _ (Q : List ℕ → ℕ → Type 0) where
     -- What each meeting keeps, the list keeps.
-    pub keeps : (I : List ℕ → Type 0) → ((c : List ℕ) (r : ℕ) → Meeting P c r → Q c r → I c → I (fire P c r))
+    pub keeps : (I : List ℕ → Type 0) → ((c : List ℕ) (r : ℕ) → Firing P c r → Q c r → I c → I (fire P c r))
         → (c rs : List ℕ) → length c ≡ P .states → EachMeeting P Q c rs → I c → I (after P c rs)
     keeps I step c rs l q i = forward Q (λ _ _. Unit {0}) I (λ d r m o j. (step d r m o j, tt)) c rs l q i .0
 
     -- A measure f that each meeting lowers bounds the number of meetings.
-    pub meetings-fall : (f : List ℕ → ℕ) → ((c : List ℕ) (r : ℕ) → Meeting P c r → Q c r → f (fire P c r) < f c)
+    pub meetings-fall : (f : List ℕ → ℕ) → ((c : List ℕ) (r : ℕ) → Firing P c r → Q c r → f (fire P c r) < f c)
         → (c rs : List ℕ) → length c ≡ P .states → EachMeeting P Q c rs → f (after P c rs) + meetings P c rs ≤ f c
     unfolding after meetings
     meetings-fall f falls c [] l q = omega arith

@@ -1,8 +1,8 @@
 -- The words are of the states of output 1 and of the others.
 use Rattle.tree.specs.Code.Laws.{aim-disagrees}
 use borrow.Author.Needs.{needs}
-use Rattle.tree.proofs.docket_aim.Statement.{statement}
-use Rattle.tree.proofs.docket_aim.Tie as tie
+use Rattle.tree.proofs.disagreement_aim.Statement.{statement}
+use Rattle.tree.proofs.disagreement_aim.Tie as tie
 
 flag-set-requires : tie.Need-flag-set-requires
 flag-set-requires c κs = search needs
@@ -19,8 +19,8 @@ without-requires c κs = search needs
 returns : tie.Need-returns
 returns c = search (aim-disagrees, needs)
 
-pub docket-aim-spec : {M : Type 1} → statement M
-docket-aim-spec =
+pub disagreement-aim-spec : {M : Type 1} → statement M
+disagreement-aim-spec =
     tie.close
     (tie.spec
     flag-set-requires

@@ -39,7 +39,7 @@
  *           5: the total length   before it ends, the first at byte 24; 5: the last does not end at the total length
  *   5       state, or S           a bit other than 0 and 1 is set in the state's byte; S: no state is an input
  *   6       rule                  a state is S or more, p > q, p' > q', the two pairs are equal, or the layer is L or more
- *   7       rule                  an earlier rule has the same before pair
+ *   7       rule                  an earlier rule has the same p, q, p' and q', whatever its layer
  *   8       layer                 no rule is in it, or a weight is over 1,000,000
  *   9       rule                  the weights of its layer do not fall: lowering (FORMAT.md, 4.3)
  *   10      rule                  it can make a lower layer act again: handover (FORMAT.md, 4.3)
@@ -66,7 +66,7 @@
 extern "C" {
 #endif
 
-#define DOCKET_VERSION "0.1.0"   /* of this header and its library */
+#define DOCKET_VERSION "0.2.0"   /* of this header and its library */
 #define DOCKET_MAX_BYTES 65535   /* a longer file is refused with 1, 0; so read at most one byte more */
 #define DOCKET_MAX_STATES 64     /* counts for every docket fit an array of so many */
 #define DOCKET_STACK 65536       /* bytes of stack that are enough for every function */
@@ -94,7 +94,8 @@ uint64_t docket_is_standstill(const uint8_t *docket, size_t docket_len, const ui
 uint64_t docket_verdict(const uint8_t *docket, size_t docket_len, const uint32_t *counts, size_t counts_len,
                         uint64_t *answer);
 
-/* The rule acts once, and counts are the group after it. */
+/* The rule acts once, and counts are the group after it. Where a pair of states has several rules, the rule
+   number chooses the outcome of their meeting. */
 uint64_t docket_step(const uint8_t *docket, size_t docket_len, uint32_t *counts, size_t counts_len, uint32_t rule);
 
 /* Runs the table: always the lowest rule number of the lowest layer that can act, until nothing can act or limit steps
@@ -132,7 +133,7 @@ static inline const char *docket_refusal_text(uint32_t number)
     case 6:
         return "A rule has a state or a layer that does not exist, a pair out of order, or two equal pairs.";
     case 7:
-        return "A rule has the before pair of an earlier rule.";
+        return "A rule has the before pair and the after pair of an earlier rule.";
     case 8:
         return "A layer has no rule, or a weight over 1,000,000.";
     case 9:

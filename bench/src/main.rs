@@ -111,6 +111,7 @@ fn median(mut values: Vec<f64>) -> f64 {
 struct Inputs {
     checks: Vec<(String, Vec<u8>)>,
     runs: Vec<(String, Vec<u8>, Vec<u32>)>,
+    outcomes: Vec<(String, Vec<u8>, Vec<u32>)>,
 }
 
 impl Inputs {
@@ -118,6 +119,7 @@ impl Inputs {
         Inputs {
             checks: checks(),
             runs: runs(),
+            outcomes: outcomes(),
         }
     }
 
@@ -132,8 +134,10 @@ impl Inputs {
                 .iter()
                 .map(|(name, docket, counts)| run_case(name, docket, counts)),
         );
-        let small_groups = self.runs.iter().take(self.runs.len() / 2);
+        let small_groups = self.runs.iter().take(self.runs.len() / 2).chain(&self.outcomes);
         cases.extend(small_groups.map(|(name, docket, counts)| refused_case(name, docket, counts)));
+        let checks = self.outcomes.iter();
+        cases.extend(checks.map(|(name, docket, _)| check_case(&format!("check, {name}"), docket)));
         cases
     }
 }
@@ -213,6 +217,14 @@ fn runs() -> Vec<(String, Vec<u8>, Vec<u32>)> {
         }
     }
     runs
+}
+
+/// Tables in which a pair has several rules, so that test 7 makes its second search, with counts for a step.
+fn outcomes() -> Vec<(String, Vec<u8>, Vec<u32>)> {
+    let one_pair = ("256 rules for one pair", make::outcomes(64, 256, 1));
+    let one_mark = ("256 rules that share their marks", make::shared_marks());
+    let case = |(name, docket): (&str, Docket)| (name.into(), docket.bytes(), spread(64, 2_000));
+    vec![case(one_pair), case(one_mark)]
 }
 
 fn spread(states: usize, workers: u32) -> Vec<u32> {

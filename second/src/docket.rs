@@ -126,7 +126,7 @@ pub fn parse(docket: &[u8]) -> Result<Docket, Refusal> {
         leaves: leaves.chunks(4 * states.len()).map(read_leaf).collect(),
     };
     rule_test(&parsed)?;
-    same_pair_test(&parsed)?;
+    equal_rule_test(&parsed)?;
     layer_test(&parsed)?;
     Ok(parsed)
 }
@@ -181,11 +181,12 @@ fn rule_test(docket: &Docket) -> Result<(), Refusal> {
     Ok(())
 }
 
-/// Test 7.
-fn same_pair_test(docket: &Docket) -> Result<(), Refusal> {
+/// Test 7: rules are equal in all four states, whatever their layers.
+fn equal_rule_test(docket: &Docket) -> Result<(), Refusal> {
+    let states = |rule: usize| (docket.rules[rule].before, docket.rules[rule].after);
     for later in 0..docket.rules.len() {
         for earlier in 0..later {
-            if docket.rules[earlier].before == docket.rules[later].before {
+            if states(earlier) == states(later) {
                 return refuse(7, later);
             }
         }
@@ -328,6 +329,12 @@ pub(crate) mod samples {
         docket("2 3", "0 1 1 1 0", "1 0", nodes)
     }
 
+    /// States 0 and 1 have two rules, 0 1 to 1 1 and 0 1 to 1 2.
+    pub fn two_outcomes() -> Docket {
+        let nodes = "3 1 0 0; 1 1 0 0; 3 1 2 0; 1 1 0 0; 5 1 0 6; 6 2 0 6; 1 2 0 0";
+        docket("2 3 1", "0 1 1 1 0; 0 1 1 2 0; 0 2 1 2 0", "1 0 0", nodes)
+    }
+
     /// Majority with a tree that is refused.
     pub fn majority() -> Docket {
         let rules = "0 1 2 3 0; 0 3 0 2 0; 1 2 1 3 1; 2 3 3 3 1";
@@ -405,11 +412,44 @@ mod tests {
     fn whole_sections() {
         let said = |states, rules, layers| line(&docket(states, rules, layers, TREE).bytes());
         assert_eq!(said("0 1", "0 1 1 1 0", "1 0"), "refused 5 2\n");
-        assert_eq!(said("2 3", "0 1 1 1 0; 0 1 0 0 0", "1 0"), "refused 7 1\n");
+        assert_eq!(said("2 3", "0 1 1 1 0; 0 1 0 0 0", "1 0"), "refused 9 1\n");
         assert_eq!(said("2 3", "0 1 1 1 0", "1000000 0"), "accepted 2 1 1 5 1000000 1\n");
         assert_eq!(said("2 3", "0 1 1 1 0", "1000001 0"), "refused 8 0\n");
         assert_eq!(said("2 3", "0 1 1 1 0", "1 0; 1 0"), "refused 8 1\n");
         assert_eq!(said("2 3", "", "1 0"), "refused 3 2\n");
+    }
+
+    #[test]
+    fn two_outcomes_of_one_pair() {
+        assert_eq!(line(&two_outcomes().bytes()), "accepted 3 3 1 7 1 2\n");
+    }
+
+    /// Test 7 refuses the lowest rule that equals an earlier one in all four states, after test 6 and before test 8.
+    #[test]
+    fn equal_rules() {
+        let said = |rules, layers| line(&docket("2 3 1", rules, layers, "1 1 0 0").bytes());
+        let one_layer = [
+            ("0 1 1 1 0; 0 1 1 1 0", "refused 7 1\n"),
+            ("0 1 1 1 0; 0 1 1 2 0; 0 1 1 2 0; 0 1 1 1 0", "refused 7 2\n"),
+            ("0 1 1 1 0; 0 1 1 1 0; 0 1 0 1 0", "refused 6 2\n"),
+            ("0 1 1 1 0; 0 1 1 2 0", "refused 13 0\n"),
+            ("0 1 1 2 0; 0 1 2 2 0", "refused 13 0\n"),
+            ("0 1 2 2 0; 1 1 2 2 0", "refused 13 0\n"),
+            ("0 1 1 2 0; 0 2 1 2 0", "refused 13 0\n"),
+        ];
+        let two_layers = [
+            ("0 1 1 1 0; 0 1 1 1 1", "refused 7 1\n"),
+            ("0 1 1 1 1; 0 1 1 1 0", "refused 7 1\n"),
+            ("0 1 1 1 0; 0 1 1 1 0", "refused 7 1\n"),
+            ("0 1 1 1 0; 0 1 1 2 0", "refused 8 1\n"),
+            ("0 1 1 1 0; 0 1 1 2 1", "refused 13 0\n"),
+        ];
+        for (rules, line) in one_layer {
+            assert_eq!(said(rules, "2 1 0"), line, "{rules}");
+        }
+        for (rules, line) in two_layers {
+            assert_eq!(said(rules, "2 1 0; 2 1 0"), line, "{rules}");
+        }
     }
 
     #[test]

@@ -168,6 +168,25 @@ mod tests {
         runs(&docket, &[2, 2, 0], 2, &[2, 2, 0], 2, false);
     }
 
+    /// The group that a step by a rule leaves.
+    fn stepped<const S: usize>(docket: &Docket, mut counts: [u32; S], rule: u32) -> [u32; S] {
+        assert_eq!(step(&docket.bytes(), &mut counts, rule), Ok(()));
+        counts
+    }
+
+    /// A step makes the outcome of its rule, and a run that of the lowest number in the lowest layer.
+    #[test]
+    fn two_outcomes_of_one_pair() {
+        let mut docket = two_outcomes();
+        assert_eq!(stepped(&docket, [1, 1, 0], 0), [0, 2, 0]);
+        assert_eq!(stepped(&docket, [1, 1, 0], 1), [0, 1, 1]);
+        runs(&docket, &[1, 1, 0], u32::MAX, &[0, 2, 0], 1, true);
+        docket.weights.push(vec![1, 0, 0]);
+        docket.rules[0].layer = 1;
+        assert_eq!(stepped(&docket, [1, 1, 0], 0), [0, 2, 0]);
+        runs(&docket, &[1, 1, 0], u32::MAX, &[0, 1, 1], 1, true);
+    }
+
     #[test]
     fn a_rule_that_meets_its_own_kind() {
         let bytes = docket("2 3", "0 0 0 1 0", "1 0", TREE).bytes();

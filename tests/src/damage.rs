@@ -2,7 +2,7 @@
 
 use crate::make::{node, rule};
 use crate::random::Random;
-use second::{Docket, Leaf, Node};
+use second::{Docket, Leaf, Node, Rule};
 
 // ---- Changes that keep a docket accepted
 
@@ -179,7 +179,7 @@ fn damage_rule(docket: &mut Docket, random: &mut Random) {
     let (at, other) = (random.below(docket.rules.len()), random.below(docket.rules.len()));
     let copy = docket.rules[other];
     let rule = &mut docket.rules[at];
-    match random.below(9) {
+    match random.below(12) {
         0 => rule.before[random.below(2)] = random.below(count),
         1 => rule.after[random.below(2)] = random.below(count),
         2 => rule.before.swap(0, 1),
@@ -188,8 +188,24 @@ fn damage_rule(docket: &mut Docket, random: &mut Random) {
         5 => rule.after = rule.before,
         6 => rule.layer = random.below(docket.weights.len() + 1),
         7 => rule.after = copy.before,
-        _ => rule.after = [random.below(count); 2],
+        8 => rule.after = [random.below(count); 2],
+        _ => *rule = copied(copy, rule.layer, count, random),
     }
+}
+
+/// A rule equal to another, or equal but for p' or q', which is most often one more outcome of its before pair; in the
+/// layer of the other or in the one given.
+fn copied(mut rule: Rule, layer: usize, count: usize, random: &mut Random) -> Rule {
+    let [p, q] = rule.after;
+    match random.below(3) {
+        0 => {}
+        1 => rule.after = [random.below(q + 1), q],
+        _ => rule.after = [p, p + random.below(count - p)],
+    }
+    if random.chance(1, 2) {
+        rule.layer = layer;
+    }
+    rule
 }
 
 /// Exchanges, drops or adds rules or layers.
@@ -198,7 +214,7 @@ fn damage_order(docket: &mut Docket, random: &mut Random) {
     if rules == 0 || layers == 0 {
         return;
     }
-    match random.below(4) {
+    match random.below(5) {
         0 => docket.rules.swap(random.below(rules), random.below(rules)),
         1 => drop(docket.rules.remove(random.below(rules))),
         2 => {
@@ -209,7 +225,13 @@ fn damage_order(docket: &mut Docket, random: &mut Random) {
                 .iter_mut()
                 .for_each(|rule| rule.layer = exchanged(rule.layer, a, b));
         }
-        _ => docket.weights.push(docket.weights[random.below(layers)].clone()),
+        3 => docket.weights.push(docket.weights[random.below(layers)].clone()),
+        _ => {
+            let rule = docket.rules[random.below(rules)];
+            docket
+                .rules
+                .push(copied(rule, random.below(layers), docket.states.len(), random));
+        }
     }
 }
 
@@ -344,6 +366,7 @@ pub fn noise(random: &mut Random) -> Vec<u8> {
 mod tests {
     use super::*;
     use crate::{make, prover};
+    use std::collections::BTreeSet;
 
     #[test]
     fn rewritten_dockets_stay_accepted() {
@@ -353,6 +376,8 @@ mod tests {
             make::relay(10, 40),
             make::maximum(&[0, 1, 1, 0, 1]),
             make::deep(40),
+            make::two_outcomes(),
+            make::outcomes(10, 40, 4),
         ];
         dockets.push(make::layered(8, 10, 3, 30, 3));
         dockets.extend((0..40).filter_map(|_| prover::prove(make::majority(), &mut random)));
@@ -363,6 +388,22 @@ mod tests {
                 assert!(second::check(&bytes).is_ok(), "{}", second::line(&bytes));
             }
         }
+    }
+
+    /// Rules are made equal, in one layer and in two, and equal but for p', but for q', or in their before pair alone.
+    #[test]
+    fn rules_are_copied() {
+        let mut random = Random::new(3);
+        let mut met = BTreeSet::new();
+        for _ in 0..1000 {
+            let mut docket = make::majority();
+            damage_rule(&mut docket, &mut random);
+            for (place, r) in docket.rules.iter().enumerate() {
+                let earlier = docket.rules[..place].iter().filter(|s| s.before == r.before);
+                met.extend(earlier.map(|s| (s.after[0] == r.after[0], s.after[1] == r.after[1], s.layer == r.layer)));
+            }
+        }
+        assert_eq!(met.len(), 8, "{met:?}");
     }
 
     #[test]

@@ -4,6 +4,7 @@ pub mod calls;
 pub mod damage;
 pub mod make;
 pub mod native;
+pub mod outcomes;
 pub mod prover;
 pub mod random;
 pub mod samples;

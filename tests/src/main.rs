@@ -13,7 +13,7 @@ use std::process::{Command, Stdio};
 use tests::calls::{self, check_code, Call, UNTOUCHED};
 use tests::random::Random;
 use tests::tally::Tally;
-use tests::{damage, make, native, prover, samples};
+use tests::{damage, make, native, outcomes, prover, samples};
 
 const THREADS: u64 = 2;
 const DOCKETS: u64 = 400_000;
@@ -82,6 +82,10 @@ fn report(tally: &Tally) {
         println!("refusal {number} at {} places: {} ..", places.len(), shown.join(" "));
     }
     println!("nodes of kinds 0 to 6 in accepted dockets: {:?}", tally.kinds);
+    println!(
+        "several rules for a pair, dockets by refusal (0: accepted): {:?}; {} steps, {} runs",
+        tally.outcomes, tally.outcome_steps, tally.outcome_runs
+    );
 }
 
 fn differences(tally: &Tally) -> Option<String> {
@@ -92,10 +96,10 @@ fn differences(tally: &Tally) -> Option<String> {
 // ---- Samples and corpus
 
 fn run_samples(results: &mut Results) {
-    for (name, docket, line) in samples::published().into_iter().chain(samples::edges()) {
+    for (name, docket, line) in [samples::published(), samples::edges(), outcomes::lines()].concat() {
         results.expect(name, line_problem(&docket, line));
     }
-    for sample in samples::calls() {
+    for sample in samples::calls().into_iter().chain(outcomes::calls()) {
         results.expect(sample.name, call_problem(&sample));
     }
     results.expect("standard input that cannot be read", unreadable_problem());
@@ -166,7 +170,7 @@ fn unreadable_problem() -> Option<String> {
 }
 
 /// The least number of dockets in the corpus, so that it is seen where some are gone.
-const CORPUS: usize = 48;
+const CORPUS: usize = 58;
 
 /// Runs the corpus; hands back its accepted dockets.
 fn run_corpus(results: &mut Results) -> Vec<Docket> {
@@ -203,38 +207,15 @@ impl Pool {
     fn new(seed: u64, corpus: Vec<Docket>) -> Pool {
         let mut random = Random::new(seed);
         let mut all = corpus;
-        all.extend([
-            make::broadcast(),
-            make::largest(),
-            make::still(2),
-            make::still(64),
-            make::last_no_input(),
-            make::deep(1),
-            make::deep(40),
-        ]);
+        all.extend(families(&mut random));
         all.extend((0..40).filter_map(|_| prover::prove(make::majority(), &mut random)));
-        for states in 2..=60 {
-            all.push(make::relay(states, 5 + states * states * 2043 / 3600));
-        }
-        for states in 2..=22 {
-            let verdicts: Vec<u8> = (0..states).map(|_| random.below(2) as u8).collect();
-            all.push(make::maximum(&verdicts));
-        }
-        for layers in 1..=16 {
-            all.push(make::layered(
-                2 + layers,
-                layers * (layers + 1) / 2,
-                layers,
-                6 + layers * layers,
-                layers,
-            ));
-        }
         all.extend(
             (0..10_000)
                 .filter_map(|_| prover::random_docket(&mut random))
                 .filter(|docket| docket.nodes.len() > 2),
         );
-        let (large, small) = all.into_iter().partition(|docket: &Docket| docket.nodes.len() > 300);
+        let is_large = |docket: &Docket| docket.nodes.len() > 300 || docket.rules.len() > 150;
+        let (large, small) = all.into_iter().partition(is_large);
         Pool { small, large }
     }
 
@@ -254,6 +235,34 @@ impl Pool {
             _ => damage::damaged(docket, random),
         }
     }
+}
+
+/// The families, some of them in several sizes.
+fn families(random: &mut Random) -> Vec<Docket> {
+    let mut all = vec![
+        make::broadcast(),
+        make::largest(),
+        make::still(2),
+        make::still(64),
+        make::last_no_input(),
+        make::deep(1),
+        make::deep(40),
+        make::two_outcomes(),
+        make::shared_marks(),
+    ];
+    for states in 2..=60 {
+        all.push(make::relay(states, 5 + states * states * 2043 / 3600));
+    }
+    for states in 2..=22 {
+        let verdicts: Vec<u8> = (0..states).map(|_| random.below(2) as u8).collect();
+        all.push(make::maximum(&verdicts));
+    }
+    for layers in 1..=16 {
+        let (rules, nodes) = (layers * (layers + 1) / 2, 6 + layers * layers);
+        all.push(make::layered(2 + layers, rules, layers, nodes, layers));
+        all.push(make::outcomes(9 + layers, 16 * layers, layers));
+    }
+    all
 }
 
 fn compare_all(pool: &Pool, seed: u64, times: u64) -> Tally {
@@ -293,7 +302,7 @@ fn compare_check(tally: &mut Tally, docket: &[u8]) {
     if !figures_agree(docket) {
         tally.differ(docket, "other figures, or another code with them".into());
     }
-    tally.count_docket(docket, native);
+    tally.count_docket(docket, code);
 }
 
 fn compare_line(tally: &mut Tally, docket: &[u8]) {
@@ -328,19 +337,7 @@ fn compare_list(tally: &mut Tally, pool: &Pool, random: &mut Random) {
             tally.differ(&docket, what);
             return;
         }
-        tally.calls += 1;
-        native
-            .refusal()
-            .into_iter()
-            .for_each(|refusal| tally.count_refusal(refusal));
-        tally.meetings += meetings(call, native.answers[0]);
-    }
-}
-
-fn meetings(call: Call, answer: u64) -> u64 {
-    match call {
-        Call::Run(_) if answer != UNTOUCHED => answer,
-        _ => 0,
+        tally.count_call(&docket, call, &native);
     }
 }
 

@@ -36,6 +36,29 @@ pub fn broadcast() -> Docket {
     relay(2, 5)
 }
 
+/// States 0 and 1 have two rules, 0 1 to 1 1 and 0 1 to 1 2.
+pub fn two_outcomes() -> Docket {
+    Docket {
+        states: vec![state(0, true), state(1, true), state(1, false)],
+        rules: vec![
+            rule([0, 1], [1, 1], 0),
+            rule([0, 1], [1, 2], 0),
+            rule([0, 2], [1, 2], 0),
+        ],
+        weights: vec![vec![1, 0, 0]],
+        nodes: vec![
+            node(3, 1, 0),
+            node(1, 1, 0),
+            node(3, 1, 2),
+            node(1, 1, 0),
+            set_node(5, 1, 1..3),
+            set_node(6, 2, 1..3),
+            node(1, 2, 0),
+        ],
+        leaves: vec![],
+    }
+}
+
 /// Document 01's majority, with no tree: states A, B, a, b.
 pub fn majority() -> Docket {
     Docket {
@@ -149,20 +172,56 @@ pub fn largest() -> Docket {
     layered(64, 256, 16, 2048, 128)
 }
 
-/// Many rules in many layers, and a tree of `nodes` nodes, 6 or more, that uses the leaves in turn. Only state 0 is an
-/// input, and no rule takes from it. The rules of low layers have the high numbers, so that the handover test looks at
-/// many rules.
+/// Many rules in many layers, each with its own before pair. The rules of low layers have the high numbers, so that the
+/// handover test looks at many rules.
 pub fn layered(states: usize, rules: usize, layers: usize, nodes: usize, leaves: usize) -> Docket {
-    let pairs = (2..states).flat_map(|q| (2..=q).map(move |p| [p, q]));
-    let layer = |r: usize| layers - 1 - r * layers / rules;
+    let befores = pairs(2, states).take(rules).enumerate();
+    let table = befores.map(|(r, before)| rule(before, [1, 1], layer_from_top(r, rules, layers)));
+    unreached(states, table.collect(), nodes, leaves)
+}
+
+/// One before pair with many outcomes, at most S(S - 1)/2 - 2 of them, in many layers; the rules of low layers have the
+/// high numbers.
+pub fn outcomes(states: usize, rules: usize, layers: usize) -> Docket {
+    let before = [states - 2, states - 1];
+    let afters = pairs(1, states).take(rules).enumerate();
+    let table = afters.map(|(r, after)| rule(before, after, layer_from_top(r, rules, layers)));
+    unreached(states, table.collect(), 6, 1)
+}
+
+/// 256 different rules for a checker that marks the rules it has met by the number (64p' + q' + 709p + 1493q) mod 4096.
+/// It is 0 for every rule but rule 0, which has the before pair of rule 1.
+pub fn shared_marks() -> Docket {
+    let after = |[p, q]: [usize; 2]| {
+        let rest = (64 * 4096 - 709 * p - 1493 * q) % 4096;
+        [rest / 64, rest % 64]
+    };
+    let fits = |[p, q]: [usize; 2], [a, b]: [usize; 2]| 0 < a && a <= b && a + b < p + q;
+    let befores = pairs(1, 64).filter(|&before| fits(before, after(before)));
+    let mut table: Vec<Rule> = befores.map(|before| rule(before, after(before), 0)).collect();
+    table.insert(0, rule(table[0].before, [1, 1], 0));
+    table.truncate(256);
+    unreached(64, table, 6, 1)
+}
+
+/// The ordered pairs of states from `first` on.
+fn pairs(first: usize, states: usize) -> impl Iterator<Item = [usize; 2]> {
+    (first..states).flat_map(move |q| (first..=q).map(move |p| [p, q]))
+}
+
+/// The layer of rule r, from the highest for rule 0 down to layer 0.
+fn layer_from_top(r: usize, rules: usize, layers: usize) -> usize {
+    layers - 1 - r * layers / rules
+}
+
+/// A table whose rules can act from no start: only state 0 is an input, and no rule takes from it or puts into it. Each rule lowers the sum of its states' numbers. The tree has `nodes` nodes, 6 or more, and uses the leaves in
+/// turn.
+fn unreached(states: usize, rules: Vec<Rule>, nodes: usize, leaves: usize) -> Docket {
+    let layers = 1 + rules.iter().map(|rule| rule.layer).max().unwrap_or(0);
     let weight = |i: usize| (i * 1_000_000 / (states - 1)) as i64;
     Docket {
         states: (0..states).map(|i| state(u8::from(i > 0), i == 0)).collect(),
-        rules: pairs
-            .take(rules)
-            .enumerate()
-            .map(|(r, before)| rule(before, [1, 1], layer(r)))
-            .collect(),
+        rules,
         weights: vec![(0..states).map(weight).collect(); layers],
         nodes: split(nodes, 12, 0, &|n, place| leaf_argument(states, n, place % leaves)),
         leaves: (0..leaves).map(|l| one_state_leaf(states, 10_000 - l as i64)).collect(),
@@ -214,5 +273,36 @@ pub fn deep(depth: usize) -> Docket {
         weights: vec![vec![1, 0]],
         nodes,
         leaves: vec![],
+    }
+}
+
+#[cfg(test)]
+mod tests {
+    use super::*;
+
+    fn is_accepted(docket: &Docket) -> bool {
+        second::check(&docket.bytes()).is_ok()
+    }
+
+    #[test]
+    fn one_pair_has_all_outcomes() {
+        for (states, rules, layers) in [(3, 1, 1), (4, 4, 2), (24, 256, 1), (24, 256, 16), (64, 256, 16)] {
+            let docket = outcomes(states, rules, layers);
+            assert!(is_accepted(&docket), "{states} states, {rules} rules, {layers} layers");
+            assert_eq!((docket.rules.len(), docket.weights.len()), (rules, layers));
+            assert!(docket.rules.iter().all(|rule| rule.before == docket.rules[0].before));
+        }
+    }
+
+    #[test]
+    fn marks_are_shared() {
+        let docket = shared_marks();
+        assert!(is_accepted(&docket));
+        assert_eq!(docket.rules.len(), 256);
+        assert_eq!(docket.rules[0].before, docket.rules[1].before);
+        for rule in &docket.rules[1..] {
+            let ([p, q], [a, b]) = (rule.before, rule.after);
+            assert_eq!((64 * a + b + 709 * p + 1493 * q) % 4096, 0);
+        }
     }
 }

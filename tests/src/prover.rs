@@ -51,7 +51,7 @@ fn random_protocol(random: &mut Random) -> Option<Docket> {
     (second::parse(&bytes).is_ok() && second::handover(&bytes).is_ok()).then_some(docket)
 }
 
-/// Adds a random rule where its before pair is new and its layer's weights fall.
+/// Adds a random rule where no rule has its four states and its layer's weights fall.
 fn add_rule(docket: &mut Docket, random: &mut Random) {
     let count = docket.states.len();
     let mut sorted = || {
@@ -61,7 +61,7 @@ fn add_rule(docket: &mut Docket, random: &mut Random) {
     let (before, after) = (sorted(), sorted());
     let layer = random.below(docket.weights.len());
     let weight = |pair: [usize; 2]| docket.weights[layer][pair[0]] + docket.weights[layer][pair[1]];
-    let known = docket.rules.iter().any(|r| r.before == before);
+    let known = docket.rules.iter().any(|r| (r.before, r.after) == (before, after));
     if !known && weight(before) > weight(after) {
         docket.rules.push(rule(before, after, layer));
     }
@@ -263,5 +263,24 @@ impl Search<'_> {
             return vec![other];
         }
         vec![absent(p), absent(q)]
+    }
+}
+
+#[cfg(test)]
+mod tests {
+    use super::*;
+    use second::Rule;
+
+    /// Pairs with several rules are found in one layer and in two.
+    #[test]
+    fn pairs_have_several_outcomes() {
+        let mut random = Random::new(4);
+        let dockets: Vec<Docket> = (0..2000).filter_map(|_| random_docket(&mut random)).collect();
+        for same_layer in [true, false] {
+            let fits = |r: &Rule, s: &Rule| r.before == s.before && r != s && (r.layer == s.layer) == same_layer;
+            let found = |docket: &&Docket| docket.rules.iter().any(|r| docket.rules.iter().any(|s| fits(r, s)));
+            let count = dockets.iter().filter(found).count();
+            assert!(20 * count > dockets.len(), "{count} of {}", dockets.len());
+        }
     }
 }

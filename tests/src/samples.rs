@@ -13,11 +13,39 @@ pub struct CallSample {
     pub docket: Vec<u8>,
     pub counts: Vec<u32>,
     pub call: Call,
-    pub said: Result<Vec<u64>, (u32, u32)>,
+    pub said: Answer,
     pub after: Vec<u32>,
 }
 
-fn changed(mut docket: Docket, change: impl FnOnce(&mut Docket)) -> Vec<u8> {
+type Answer = Result<Vec<u64>, (u32, u32)>;
+
+impl CallSample {
+    pub fn new(
+        name: &'static str,
+        docket: &[u8],
+        counts: &[u32],
+        call: Call,
+        said: Answer,
+        after: &[u32],
+    ) -> CallSample {
+        CallSample {
+            name,
+            docket: docket.to_vec(),
+            counts: counts.to_vec(),
+            call,
+            said,
+            after: after.to_vec(),
+        }
+    }
+
+    /// A call that leaves the counts as they are.
+    pub fn same(name: &'static str, docket: &[u8], counts: &[u32], call: Call, said: Answer) -> CallSample {
+        CallSample::new(name, docket, counts, call, said, counts)
+    }
+}
+
+/// The bytes of a docket after a change.
+pub fn changed(mut docket: Docket, change: impl FnOnce(&mut Docket)) -> Vec<u8> {
     change(&mut docket);
     docket.bytes()
 }
@@ -70,10 +98,10 @@ fn both_ends(first: Vec<Node>, last: Vec<Node>) -> Vec<u8> {
             y1: weights.clone(),
             y2: weights,
         });
-        d.nodes = vec![node(4, 0, 0), closed.clone()];
+        d.nodes = vec![node(4, 0, 0), closed];
         d.nodes.extend(first);
         d.nodes
-            .extend([node(4, 1, 1), node(4, 2, 1), node(0, 0, 0), closed.clone(), closed]);
+            .extend([node(4, 1, 1), node(4, 2, 1), node(0, 0, 0), closed, closed]);
         d.nodes.extend(last);
     })
 }
@@ -209,8 +237,8 @@ pub fn edges() -> Vec<Sample> {
             "refused 6 255",
         ),
         (
-            "pair of rule 255",
-            changed(largest(), |d| d.rules[255].before = d.rules[0].before),
+            "rule 255 equal to rule 0",
+            changed(largest(), |d| d.rules[255] = d.rules[0]),
             "refused 7 255",
         ),
         (
@@ -254,15 +282,7 @@ pub fn calls() -> Vec<CallSample> {
     let broadcast = make::broadcast().bytes();
     let majority = changed(make::majority(), |d| d.nodes.push(node(1, 1, 0)));
     let own_kind = make::deep(2).bytes();
-    let sample = |name, docket: &Vec<u8>, counts: &[u32], call, said, after: &[u32]| CallSample {
-        name,
-        docket: docket.clone(),
-        counts: counts.to_vec(),
-        call,
-        said,
-        after: after.to_vec(),
-    };
-    let same = |name, docket, counts: &[u32], call, said| sample(name, docket, counts, call, said, counts);
+    let (sample, same) = (CallSample::new, CallSample::same);
     let most = u32::MAX;
     vec![
         sample(
@@ -381,7 +401,7 @@ pub fn calls() -> Vec<CallSample> {
         ),
         same(
             "a refused docket",
-            &broadcast[..98].to_vec(),
+            &broadcast[..98],
             &[1, 1],
             Call::Step(0),
             Err((1, 0)),

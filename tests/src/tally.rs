@@ -1,5 +1,6 @@
 //! What the compared inputs were, so that the comparison can show that it reached every test.
 
+use crate::calls::{Call, Said};
 use second::Refusal;
 use std::collections::{BTreeMap, BTreeSet};
 
@@ -15,6 +16,12 @@ pub struct Tally {
     pub places: BTreeMap<u32, BTreeSet<u32>>,
     /// Nodes of each kind in accepted dockets.
     pub kinds: [u64; 7],
+    /// Dockets in which a pair has several rules, by the number of their refusal, 8 or more; 0 for accepted ones.
+    pub outcomes: BTreeMap<u32, u64>,
+    /// Steps by one of several rules of a pair.
+    pub outcome_steps: u64,
+    /// Runs that made a meeting, of tables in which a pair has several rules.
+    pub outcome_runs: u64,
     /// What was said to the inputs on which the two implementations differ.
     pub differences: Vec<String>,
 }
@@ -25,6 +32,9 @@ impl Tally {
         self.dockets += 1;
         let (number, place) = ((code / 65_536) as u32, (code % 65_536) as u32);
         self.pass_shape += u64::from(number == 0 || number > 8);
+        if (number == 0 || number > 7) && has_outcomes(docket) {
+            *self.outcomes.entry(number).or_default() += 1;
+        }
         if number > 0 {
             self.count_refusal(Refusal { number, place });
             return;
@@ -32,6 +42,23 @@ impl Tally {
         self.accepted += 1;
         for node in second::parse(docket).map_or(vec![], |parsed| parsed.nodes) {
             self.kinds[usize::from(node.kind)] += 1;
+        }
+    }
+
+    /// Counts a call by what it said.
+    pub fn count_call(&mut self, docket: &[u8], call: Call, said: &Said) {
+        self.calls += 1;
+        if let Some(refusal) = said.refusal() {
+            return self.count_refusal(refusal);
+        }
+        match call {
+            Call::Step(rule) => self.outcome_steps += u64::from(is_outcome(docket, rule)),
+            Call::Run(_) => {
+                let steps = said.answers[0];
+                self.meetings += steps;
+                self.outcome_runs += u64::from(steps > 0 && has_outcomes(docket));
+            }
+            _ => {}
         }
     }
 
@@ -57,11 +84,17 @@ impl Tally {
         for (sum, more) in self.kinds.iter_mut().zip(other.kinds) {
             *sum += more;
         }
+        for (number, more) in other.outcomes {
+            *self.outcomes.entry(number).or_default() += more;
+        }
+        self.outcome_steps += other.outcome_steps;
+        self.outcome_runs += other.outcome_runs;
         self.differences.extend(other.differences);
     }
 
     /// What the inputs failed to reach: several places with every refusal that has them, some last places, every kind of
-    /// node, half of the dockets past tests 1 to 8 and a tenth of them accepted.
+    /// node, half of the dockets past tests 1 to 8, a tenth of them accepted, and tables in which a pair has several
+    /// rules.
     pub fn not_reached(&self) -> Vec<String> {
         let mut missing = vec![];
         for (number, least) in LEAST_PLACES {
@@ -86,9 +119,47 @@ impl Tally {
         if 10 * self.accepted < self.dockets {
             missing.push("fewer than a tenth of the dockets are accepted".into());
         }
+        missing.extend(self.outcomes_not_reached());
         missing
     }
+
+    /// What the inputs failed to reach of tables in which a pair has several rules: a quarter of the accepted dockets,
+    /// some refused by each test after 7, some steps and some runs.
+    fn outcomes_not_reached(&self) -> Vec<String> {
+        let dockets = |number: u32| self.outcomes.get(&number).copied().unwrap_or(0);
+        let mut counts = vec![
+            ("accepted dockets".into(), dockets(0), self.accepted / 4),
+            ("steps".into(), self.outcome_steps, LEAST_OUTCOMES),
+            ("runs".into(), self.outcome_runs, LEAST_OUTCOMES),
+        ];
+        counts.extend((8..=13).map(|number| (format!("refusals {number}"), dockets(number), LEAST_OUTCOMES)));
+        counts.retain(|(_, met, least)| met < least);
+        let text = |(what, met, least)| format!("several rules for a pair: {met} {what} of at least {least}");
+        counts.into_iter().map(text).collect()
+    }
 }
+
+/// Whether a pair of states has several rules, in a docket that passes tests 1 to 7.
+fn has_outcomes(docket: &[u8]) -> bool {
+    let mut pairs = before_pairs(docket);
+    pairs.sort_unstable();
+    pairs.windows(2).any(|two| two[0] == two[1])
+}
+
+/// Whether another rule has the before pair of this one.
+fn is_outcome(docket: &[u8], rule: u32) -> bool {
+    let pairs = before_pairs(docket);
+    pairs.iter().filter(|&&pair| pair == pairs[rule as usize]).count() > 1
+}
+
+fn before_pairs(docket: &[u8]) -> Vec<&[u8]> {
+    let offset = |at: usize| usize::from(u16::from_le_bytes([docket[at], docket[at + 1]]));
+    let rules = docket[offset(14)..offset(16)].chunks(5);
+    rules.map(|rule| &rule[..2]).collect()
+}
+
+/// How many inputs of each kind, other than accepted dockets, must have several rules for a pair.
+const LEAST_OUTCOMES: u64 = 200;
 
 /// Places that must be met: the place behind the last state in test 5, the last layer, the last state, and the greatest
 /// rule number.

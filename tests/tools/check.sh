@@ -170,7 +170,8 @@ holds 'the examples' printed 0 'examples/broadcast.docket: accepted 2 1 1 5 1 1
 examples/majority.docket: accepted 4 4 2 21 3 4
 examples/maximum_10.docket: accepted 10 45 1 127 9 9
 examples/threshold_1_0_8.docket: accepted 21 146 2 384 37 19
-4 files: 4 accepted, 0 refused, 0 trouble'
+examples/two_outcomes.docket: accepted 3 3 1 7 1 2
+5 files: 5 accepted, 0 refused, 0 trouble'
 
 files=(tests/corpus/*.docket)
 lines=$(for file in "${files[@]}"; do echo "$file: $(<"${file%.docket}.expect")"; done)
@@ -334,7 +335,7 @@ words 4 5 ': the file does not end where the leaves end'
 words 5 1 ': state 1 has a bit set that must be 0'
 words 5 2 ': no state is an input'
 words 6 0 ': rule 0 has a state or layer that does not exist, a pair out of order, or two equal pairs'
-words 7 200 ': rule 200 has the before pair of an earlier rule'
+words 7 200 ': rule 200 has the before pair and the after pair of an earlier rule'
 words 8 15 ': layer 15 has no rule, or a weight over 1,000,000'
 words 9 7 ': rule 7 does not lower the weights of its layer'
 words 10 3 ': rule 3 breaks the handover'

@@ -84,7 +84,7 @@ impl<'a> Docket<'a> {
     fn rule_tests(&self) -> Result<u32, Refusal> {
         let (states, layers) = (self.states.len() as u8, self.layers as u8);
         let mut seen = [0u64; 64];
-        let mut repeated = None;
+        let mut repeated = false;
         let mut used = 0;
         for (place, &[p, q, a, b, layer]) in self.rules.iter().enumerate() {
             let pairs = (p <= q) & (q < states) & (a <= b) & (b < states);
@@ -93,13 +93,31 @@ impl<'a> Docket<'a> {
             }
             let row = &mut seen[usize::from(p & 63)];
             let bit = 1 << (q & 63);
-            if *row & bit != 0 {
-                repeated = repeated.or(Some(place));
-            }
+            repeated |= *row & bit != 0;
             *row |= bit;
             used |= 1 << (layer & 31);
         }
-        repeated.map_or(Ok(used), |place| refuse(7, place))
+        if repeated {
+            self.equal_rule_test()?;
+        }
+        Ok(used)
+    }
+
+    /// Test 7, where some pair has several rules. Rules that differ may share a mark, so a rule whose mark is set
+    /// already is compared with the earlier ones.
+    fn equal_rule_test(&self) -> Result<(), Refusal> {
+        let mut seen = [0u64; 64];
+        for (place, rule) in self.rules.iter().enumerate() {
+            let [p, q, a, b, _] = rule.map(usize::from);
+            let mark = (64 * a + b + 709 * p + 1493 * q) % 4096;
+            let row = &mut seen[mark / 64];
+            let bit = 1 << (mark % 64);
+            if *row & bit != 0 && self.rules[..place].iter().any(|earlier| earlier[..4] == rule[..4]) {
+                return refuse(7, place);
+            }
+            *row |= bit;
+        }
+        Ok(())
     }
 
     /// Test 8.

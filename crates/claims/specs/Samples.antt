@@ -1,4 +1,4 @@
--- The samples P1 to P12 of document 01, by computation on the bytes.
+-- The samples P1 to P12 of document 01, and samples of document 02, by computation on the bytes.
 use mathlib.Core.Path.{_≡_, refl}
 use mathlib.Core.Bool.{Bool, true, false}
 use mathlib.Core.List.{List, [], _∷_}
@@ -9,7 +9,8 @@ use Rattle.theory.specs.Tree.{widest}
 use Rattle.theory.specs.Machine.{run, ran}
 use Rattle.shape.specs.Shape.{refusal}
 use Rattle.theory.specs.Unfold.{walking, calling}
-use Rattle.format.specs.Samples.{broadcast, majority}
+use Rattle.format.specs.Format.{headerOf}
+use Rattle.format.specs.Samples.{broadcast, majority, twoOutcomes}
 use Rattle.shape.specs.Samples.{shaping}
 use Rattle.leaf.specs.Leaf.{badLeaf}
 use Rattle.checker.specs.Check.{sectionsCheck, checkOf}
@@ -17,6 +18,8 @@ use Rattle.checker.specs.declared.Checked.{Checked}
 use Rattle.checker.specs.declared.Checked.the-variants.{Accepted, Refused}
 use Rattle.machine.specs.Calls.{verdictAnswer, verdictOf, replyOf, countsOf}
 use Rattle.machine.specs.declared.Verdict.the-variants.{Agreed}
+use Rattle.claims.specs.Claims.{Demand3}
+use Rattle.claims.specs.Claims.Proved.{claims}
 use Rattle.claims.specs.Dockets.OneLayer.{one-layer}
 use Rattle.claims.specs.Dockets.{cut, longer, exchanged, withoutAbsent, oneLayer}
 
@@ -61,6 +64,26 @@ samples =
     ∷ says withoutAbsent (Refused (refusal 13 9))  -- P12
     ∷ []
 
-pub samples-hold : AllHold samples
+-- Samples of document 02. Job 1: a pair with two outcomes, and the same with rule 1 equal to rule 0.
+abbrev pub requested : List Sample
+requested =
+    says twoOutcomes (Accepted (record { states = 3; rules = 3; layers = 1; nodes = 7; spreads = 1; widest = 2 }))  -- Job 1
+    ∷ says (set twoOutcomes 35 1) (Refused (refusal 7 1))  -- Job 1
+    ∷ []
+
+-- The names that samples unfold.
+unfoldable sampling : ℕ
 unfolding shaping walking calling badLeaf sectionsCheck checkOf replyOf countsOf verdictOf verdictAnswer
+sampling = 0
+
+pub samples-hold : AllHold samples
+unfolding sampling
 samples-hold = (refl, (refl, (refl, (refl, (refl, (refl, (refl, ((refl, refl, refl), ((refl, refl, refl), (refl, (one-layer, (refl, (refl, tt)))))))))))))
+
+pub requested-hold : AllHold requested
+unfolding sampling
+requested-hold = (refl, (refl, tt))
+
+-- So demand 3 holds of a docket in which a pair has two outcomes: what it says of rest and verdict is not empty there.
+pub outcomes-settle : (c : List ℕ) → Demand3 twoOutcomes (headerOf twoOutcomes) c
+outcomes-settle = claims twoOutcomes .demand-3 (_, requested-hold .0)

@@ -1,4 +1,4 @@
--- Bytes: numbers in a list of bytes. Format: the docket file, and what its sections stand for. Samples: two dockets.
+-- Bytes: numbers in a list of bytes. Format: the docket file, and what its sections stand for. Samples: three dockets.
 -- Code: what serves the functions of this crate. Laws stand in Bytes/Laws.
 pub mod Bytes
 pub mod Format

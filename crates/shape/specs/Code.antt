@@ -1,41 +1,55 @@
 -- What the functions of the shape answer, beside the tests themselves, and the lengths that callers use.
 use mathlib.Core.Path.{_≡_}
-use mathlib.Core.Bool.{Bool, _&&_}
+use mathlib.Core.Bool.{Bool, not, cond, _||_, _&&_}
 use mathlib.Core.List.{List, []}
-use Prim.Native.Nat.{ℕ, _%_}
+use Prim.Native.Nat.{ℕ, _+_, _*_, _%_}
 use lib.Dec.{ltb}
 use lib.ListN.{length}
 use Rattle.theory.specs.Below.{anyBelow}
 use Rattle.theory.specs.Judge.{judge}
 use Rattle.format.specs.Format.{statesLength, rulesLength, layersLength, nodesLength, leavesLength, sectionsOf}
-use Rattle.format.specs.Format.{isInput, ruleP, ruleQ}
+use Rattle.format.specs.Format.{isInput, ruleP, ruleQ, ruleP′, ruleQ′, ruleOf}
 use Rattle.format.specs.Code.{sections}
 use Rattle.format.specs.declared.Sizes.{Sizes}
 use Rattle.format.specs.declared.Header.{Header}
-use Rattle.shape.specs.Shape.{refusal, otherBits, badRule, samePair, inLayer, tooLarge, sectionTests}
+use Rattle.format.specs.declared.Rule.{Rule}
+use Rattle.shape.specs.Shape.{refusal, otherBits, badRule, sameBefore, sameAfter, inLayer, tooLarge, sectionTests}
 use Rattle.shape.specs.declared.Property.{Property}
-use Rattle.shape.specs.declared.Property.the-variants.{Flags, Input, Rule, Pair, Layer, Weight}
+use Rattle.shape.specs.declared.Property.the-variants as property
+use Rattle.shape.specs.declared.Property.the-variants.{Flags, Input, Layer, Weight}
 use Rattle.shape.specs.declared.Refusal.{Refusal}
 use Rattle.shape.specs.declared.Tested.{Tested}
 use Rattle.shape.specs.declared.Tested.the-variants.{Passed, Failed}
 use Rattle.shape.specs.declared.Shape.{Shape}
 use Rattle.shape.specs.declared.Shape.the-variants.{Sound, Refused}
 
+-- Rules x and y have the same before pair and, if whole, the same after pair.
+abbrev pub sameFields : Bool → Rule → Rule → Bool
+sameFields whole x y = sameBefore x y && (not whole || sameAfter x y)
+
+-- Rule e is like rule y.
+unfoldable pub alike : List ℕ → Bool → Rule → ℕ → Bool
+alike rules whole y e = sameFields whole (ruleOf rules e) y
+
+-- An earlier rule is like rule r.
+unfoldable pub again : List ℕ → Bool → ℕ → Bool
+again rules whole r = anyBelow r (alike rules whole (ruleOf rules r))
+
 -- What holds answers, of the section that the property is about.
 abbrev pub holdsOf : List ℕ → Sizes → Property → ℕ → Bool
 holdsOf x z Flags s = otherBits z x s
 holdsOf x z Input s = isInput z x s
-holdsOf x z Rule r = badRule z x r
-holdsOf x z (Pair r) e = samePair x r e
+holdsOf x z property.Rule r = badRule z x r
 holdsOf x z (Layer l) r = inLayer x l r
 holdsOf x z (Weight l) s = tooLarge (z .states) x l s
 
--- Where test 7 marks rule r: any two numbers below 64 that are the same for rules with the same before pair.
-abbrev pub rowOf : List ℕ → ℕ → ℕ
-rowOf rules r = ruleP rules r % 64
-
-abbrev pub columnOf : List ℕ → ℕ → ℕ
-columnOf rules r = ruleQ rules r % 64
+-- The mark of rule r: a number below 4096 that is the same for rules that are alike. If whole, and where states are below 64,
+-- it differs for two after pairs of one before pair, and for other rules it seldom agrees.
+abbrev pub markOf : List ℕ → Bool → ℕ → ℕ
+markOf rules whole r =
+    cond whole
+    ((64 * ruleP′ rules r + ruleQ′ rules r + 709 * ruleP rules r + 1493 * ruleQ rules r) % 4096)
+    ((64 * ruleP rules r + ruleQ rules r) % 4096)
 
 -- The layers below 64 that one of the first n rules is in.
 unfoldable pub usedBelow : List ℕ → ℕ → ℕ → Bool

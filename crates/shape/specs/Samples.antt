@@ -3,7 +3,7 @@ use mathlib.Core.Path.{_≡_, refl}
 use mathlib.Core.List.{List, [], _∷_, _++_}
 use Prim.Native.Nat.{ℕ}
 use lib.ListN.{take, set}
-use Rattle.format.specs.Samples.{reading, broadcast, majority}
+use Rattle.format.specs.Samples.{reading, broadcast, majority, twoOutcomes}
 use Rattle.theory.specs.Below.{firstBelow}
 use Rattle.shape.specs.Shape.{nth, countFaults, badState, repeats, badLayer, headerShape, shapeOf}
 use Rattle.shape.specs.declared.Shape.{Shape}
@@ -19,7 +19,11 @@ abbrev pub said : Shape → ℕ × ℕ
 said (Sound h) = (0, 0)
 said (Refused r) = (r .number, r .place)
 
--- Dockets, and edits of them at one byte or two, each with its number and place.
+-- Majority with another rule 3, in layer 1. Rule 1, in layer 0, is 0 3 to 0 2.
+abbrev otherRule : ℕ → ℕ → ℕ → ℕ → List ℕ
+otherRule p q p′ q′ = set (set (set (set majority 43 p) 44 q) 45 p′) 46 q′
+
+-- Dockets, and edits of them at a few bytes, each with its number and place.
 abbrev pub samples : List (List ℕ × (ℕ × ℕ))
 samples =
     (broadcast, (0, 0))
@@ -56,11 +60,19 @@ samples =
     ∷ (set (set (set broadcast 31 64) 32 66) 33 15, (0, 0))
     ∷ (set (set (set broadcast 31 65) 32 66) 33 15, (8, 0))
     ∷ (majority, (0, 0))
-    ∷ (set majority 43 0, (7, 3))
-    ∷ (set (set majority 34 1) 47 2, (6, 3))
-    ∷ (set (set majority 33 0) 34 1, (7, 1))
+    ∷ (set majority 43 0, (0, 0))
+    ∷ (set (set twoOutcomes 35 1) 41 1, (6, 2))
+    ∷ (set (set majority 33 0) 34 1, (0, 0))
     ∷ (set (set majority 42 0) 47 0, (8, 1))
     ∷ (set majority 78 16, (8, 1))
+    ∷ (twoOutcomes, (0, 0))
+    ∷ (set twoOutcomes 35 1, (7, 1))
+    ∷ (set (set twoOutcomes 35 1) 44 16, (7, 1))
+    ∷ (set (set twoOutcomes 38 1) 40 1, (7, 2))
+    ∷ (set twoOutcomes 38 1, (7, 2))
+    ∷ (otherRule 0 3 0 2, (7, 3))
+    ∷ (otherRule 0 3 0 1, (0, 0))
+    ∷ (otherRule 0 3 1 2, (0, 0))
     ∷ []
 
 abbrev answers : List (List ℕ × (ℕ × ℕ)) → List (ℕ × ℕ)

@@ -7,7 +7,7 @@ use lib.ListN.{length, getD}
 use Rattle.theory.specs.Below.{anyBelow}
 use Rattle.theory.specs.Judge.{Test, only, judge}
 use Rattle.format.specs.Format.{headerOf, statesLength, rulesLength, layersLength, nodesLength, leavesLength, Sections, sectionsOf}
-use Rattle.format.specs.Format.{flags, isInput, ruleP, ruleQ, ruleLayer, ruleOf, layerWeight}
+use Rattle.format.specs.Format.{flags, isInput, ruleLayer, ruleOf, layerWeight}
 use Rattle.format.specs.declared.Sizes.{Sizes}
 use Rattle.format.specs.declared.Header.{Header}
 use Rattle.format.specs.declared.Rule.{Rule}
@@ -59,9 +59,17 @@ nth ts k = getD ts k false
 abbrev pub otherBits : Sizes → List ℕ → ℕ → Bool
 otherBits z states s = ltb 3 (flags z states s)
 
--- Rules e and r have the same before pair.
-abbrev pub samePair : List ℕ → ℕ → ℕ → Bool
-samePair rules r e = eqb (ruleP rules e) (ruleP rules r) && eqb (ruleQ rules e) (ruleQ rules r)
+-- Rules x and y have the same before pair.
+abbrev pub sameBefore : Rule → Rule → Bool
+sameBefore x y = eqb (x .p) (y .p) && eqb (x .q) (y .q)
+
+-- Rules x and y have the same after pair.
+abbrev pub sameAfter : Rule → Rule → Bool
+sameAfter x y = eqb (x .p2) (y .p2) && eqb (x .q2) (y .q2)
+
+-- Rules e and r are equal in all four states.
+abbrev pub sameRule : List ℕ → ℕ → ℕ → Bool
+sameRule rules r e = sameBefore (ruleOf rules e) (ruleOf rules r) && sameAfter (ruleOf rules e) (ruleOf rules r)
 
 -- Rule r is of layer l.
 abbrev pub inLayer : List ℕ → ℕ → ℕ → Bool
@@ -92,9 +100,9 @@ badFields z x =
 abbrev pub badRule : Sizes → List ℕ → ℕ → Bool
 badRule z rules r = badFields z (ruleOf rules r)
 
--- Test 7: an earlier rule has the same before pair.
+-- Test 7: an earlier rule is equal in all four states, whatever its layer.
 unfoldable pub repeats : List ℕ → ℕ → Bool
-repeats rules r = anyBelow r (samePair rules r)
+repeats rules r = anyBelow r (sameRule rules r)
 
 -- Test 8: no rule in the layer, or a weight too large.
 unfoldable pub badLayer : Sizes → List ℕ → List ℕ → ℕ → Bool

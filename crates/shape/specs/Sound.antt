@@ -7,7 +7,7 @@ use lib.ListN.{length}
 use Rattle.theory.specs.Protocol.{WellFormed}
 use Rattle.theory.specs.Ladder.{OrderedPartition}
 use Rattle.format.specs.Format.{headerOf, statesLength, rulesLength, layersLength, nodesLength, leavesLength, Sections, sectionsOf}
-use Rattle.format.specs.Format.{flags, ruleP, ruleQ, layerWeight, protocolOf, layersOf}
+use Rattle.format.specs.Format.{flags, ruleP, ruleQ, ruleP′, ruleQ′, layerWeight, protocolOf, layersOf}
 use Rattle.format.specs.declared.Sizes.{Sizes}
 use Rattle.format.specs.declared.Header.{Header}
 pub mod Laws
@@ -39,7 +39,8 @@ pub record SoundSections (z : Sizes) (x : Sections) : Type 0 where
   pub state-bits : (s : ℕ) → s < z .states → flags z (x .states) s ≤ 3
   pub formed : WellFormed (protocolOf z (x .states) (x .rules))
   pub partition : OrderedPartition (protocolOf z (x .states) (x .rules)) (layersOf z (x .rules))
-  pub pairs-distinct : (e r : ℕ) → e < r → r < z .rules → ruleP (x .rules) e ≡ ruleP (x .rules) r → ruleQ (x .rules) e ≡ ruleQ (x .rules) r → ⊥
+  pub rules-distinct : (e r : ℕ) → e < r → r < z .rules → ruleP (x .rules) e ≡ ruleP (x .rules) r → ruleQ (x .rules) e ≡ ruleQ (x .rules) r
+      → ruleP′ (x .rules) e ≡ ruleP′ (x .rules) r → ruleQ′ (x .rules) e ≡ ruleQ′ (x .rules) r → ⊥
   pub weights-most : (l s : ℕ) → l < z .layers → s < z .states → layerWeight (z .states) (x .layers) l s ≤ 1000000
 
 -- The bytes b, with header h, pass tests 1 to 8.

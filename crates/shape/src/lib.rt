@@ -9,10 +9,11 @@ ghost use lib.ListN.{length};
 ghost use Rattle.theory.specs.Bool.{member};
 ghost use Rattle.theory.specs.Below.{anyBelow, firstBelow};
 ghost use Rattle.format.specs.Code.{Value};
-ghost use Rattle.shape.specs.Shape.{countFaults, offsetFaults, nth, badState, badRule, samePair, repeats, inLayer, badLayer, headerShape, shapeOf};
-ghost use Rattle.shape.specs.Code.{holdsOf, rowOf, columnOf, usedBelow, testedOf, asShape, refusalOf};
+ghost use Rattle.shape.specs.Shape.{countFaults, offsetFaults, nth, badState, badRule, repeats, inLayer, badLayer, headerShape, shapeOf};
+ghost use Rattle.shape.specs.Code.{alike, again, holdsOf, markOf, usedBelow, testedOf, asShape, refusalOf};
 use facts::Facts;
 use format::Header;
+use format::Rule;
 use format::Sizes;
 
 // A refusal: its number, and its place.
@@ -41,8 +42,6 @@ pub enum Property {
     Input,
     // A rule that test 6 refuses.
     Rule,
-    // A rule with the before pair of this one.
-    Pair(u16),
     // A rule of this layer.
     Layer(u16),
     // A state whose weight in this layer is too large.
@@ -132,15 +131,6 @@ fn rule_bad(rules: &[u8], z: Sizes, r: u16) -> bool
         | (m <= t.layer)
 }
 
-// Whether the rules r and e have the same before pair.
-fn same_pair(rules: &[u8], r: u16, e: u16) -> bool
-    ensures { λ t. ⌜ t ≡ samePair (now (rules .entry)) r e ⌝ }
-{
-    let one = format::read_rule(rules, e);
-    let other = format::read_rule(rules, r);
-    (one.p == other.p) & (one.q == other.q)
-}
-
 // Whether record i of the section x has the property.
 fn holds(x: &[u8], z: Sizes, t: Property, i: u16) -> bool
     ensures { λ r. ⌜ r ≡ holdsOf (now (x .entry)) z t i ⌝ }
@@ -149,7 +139,6 @@ fn holds(x: &[u8], z: Sizes, t: Property, i: u16) -> bool
         Property::Flags => 3 < format::state_flags(x, z, i),
         Property::Input => format::state_flags(x, z, i) / 2 % 2 == 1,
         Property::Rule => rule_bad(x, z, i),
-        Property::Pair(r) => same_pair(x, r, i),
         Property::Layer(l) => format::rule_layer(x, i) == (l as usize),
         Property::Weight(l) => 1000000 < format::layer_weight(x, z.states, l, i),
     }
@@ -184,46 +173,80 @@ fn state_fault(states: &[u8], z: Sizes) -> u32
     n as u32
 }
 
-// Whether an earlier rule has the before pair of rule r. No search where it is not marked.
-fn rule_repeats(rules: &[u8], z: Sizes, marked: bool, r: u16) -> bool
-    ensures { λ t. ⌜ t ≡ (marked && repeats (now (rules .entry)) r) ⌝ }
+// Whether rule e is like another one: they have the same before pair and, if whole, the same after pair.
+fn rule_alike(rules: &[u8], whole: bool, other: Rule, e: u16) -> bool
+    ensures { λ t. ⌜ t ≡ alike (now (rules .entry)) whole other e ⌝ }
 {
-    if marked {
-        return first(rules, z, Property::Pair(r), r) < r;
+    let one = format::read_rule(rules, e);
+    (one.p == other.p) & (one.q == other.q) & (!whole | (one.p2 == other.p2) & (one.q2 == other.q2))
+}
+
+// Whether an earlier rule is like rule r. No search where it is not marked.
+fn like_earlier(rules: &[u8], whole: bool, marked: bool, r: u16) -> bool
+    ensures { λ t. ⌜ t ≡ (marked && again (now (rules .entry)) whole r) ⌝ }
+{
+    if !marked {
+        return false;
+    }
+    let later = format::read_rule(rules, r);
+    let mut e: u16 = 0;
+    while e < r {
+        if rule_alike(rules, whole, later, e) {
+            return true;
+        }
+        e += 1;
     }
     false
 }
 
-// Where rule r is marked: rules with the same before pair have the same row and column.
-fn mark_row(rules: &[u8], r: u16) -> usize
-    ensures { λ k. ⌜ Value 64 (rowOf (now (rules .entry)) r) k ⌝ }
+// The mark of rule r, which rules that are alike share.
+fn mark(rules: &[u8], whole: bool, r: u16) -> usize
+    ensures { λ k. ⌜ Value 4096 (markOf (now (rules .entry)) whole r) k ⌝ }
 {
-    format::rule_p(rules, r) % 64
+    let p = format::rule_p(rules, r);
+    let q = format::rule_q(rules, r);
+    if whole {
+        let after = 64 * format::rule_p_after(rules, r) + format::rule_q_after(rules, r);
+        return (after + 709 * p + 1493 * q) % 4096;
+    }
+    (64 * p + q) % 4096
 }
 
-fn mark_column(rules: &[u8], r: u16) -> usize
-    ensures { λ k. ⌜ Value 64 (columnOf (now (rules .entry)) r) k ⌝ }
-{
-    format::rule_q(rules, r) % 64
-}
-
-// Test 7: the first rule that has the before pair of an earlier one, or the number of rules.
+// The first rule below n that is like an earlier one, or n.
 // The rules met so far are marked, so that only for one whose mark is set already there is a search.
-fn repeat_fault(rules: &[u8], z: Sizes) -> u16
-    ensures { λ i. ⌜ i ≡ firstBelow (z .rules) (repeats (now (rules .entry))) ⌝ }
+fn first_again(rules: &[u8], whole: bool, n: u16) -> u16
+    ensures { λ i. ⌜ i ≡ firstBelow n (again (now (rules .entry)) whole) ⌝ }
 {
     let mut marks: [u64; 64] = [0; 64];
     let mut i: u16 = 0;
-    while i < z.rules {
-        let row = mark_row(rules, i);
-        let column = mark_column(rules, i);
-        if rule_repeats(rules, z, bits::has(marks[row], column), i) {
+    while i < n {
+        let k = mark(rules, whole, i);
+        let row = k / 64;
+        let column = k % 64;
+        if like_earlier(rules, whole, bits::has(marks[row], column), i) {
             return i;
         }
         marks[row] = bits::with_if(marks[row], true, column);
         i += 1;
     }
     i
+}
+
+// Test 7: the first rule that is equal to an earlier one in all four states, or the number of rules.
+// Before pairs are searched first. Only where two rules have the same, a second search is by whole rules.
+// This is a loop, and not two calls, so that the search is compiled in its place: small tables are tested faster so.
+fn repeat_fault(rules: &[u8], z: Sizes) -> u16
+    ensures { λ i. ⌜ i ≡ firstBelow (z .rules) (repeats (now (rules .entry))) ⌝ }
+{
+    let n = z.rules;
+    let mut whole = false;
+    loop {
+        let k = first_again(rules, whole, n);
+        if whole | (n <= k) {
+            return k;
+        }
+        whole = true;
+    }
 }
 
 // The layers below 64 that have a rule.

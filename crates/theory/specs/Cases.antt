@@ -1,7 +1,9 @@
--- Cases of the definitions, most of them computed. P1 to P12 are the samples of document 01.
+-- Cases of the definitions, most of them computed. P1 to P12 are the samples of document 01. Tables has laws that serve
+-- Witnesses.
 pub mod Protocol
 pub mod Ladder
 pub mod Tree
 pub mod Potential
 pub mod Machine
+pub mod Tables
 pub mod Witnesses

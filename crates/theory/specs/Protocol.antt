@@ -13,7 +13,7 @@ pub mod Lists
 pub mod Small
 
 -- Rule r < rules takes one agent from each of p r, q r (document 01: the before pair) and puts one into each of p′ r, q′
--- r (the after pair).
+-- r (the after pair). A before pair may have several rules.
 pub record Protocol : Type 0 where
   pub states : ℕ
   pub rules : ℕ
@@ -25,7 +25,7 @@ pub record Protocol : Type 0 where
   pub input : ℕ → Bool
 
 -- What tests 5 and 6 say of a protocol: every rule names states, its pairs are in order and differ, and some state is an
--- input. That before pairs differ from each other (test 7) is not needed.
+-- input. That rules differ from each other (test 7) is not needed.
 pub record WellFormed (P : Protocol) : Type 0 where
   pub p-lt : (r : ℕ) → r < P .rules → P .p r < P .states
   pub q-lt : (r : ℕ) → r < P .rules → P .q r < P .states

@@ -24,20 +24,14 @@ rule-bad-requires c κs = search needs
 enum-known-t : tie.Need-enum-known-t
 enum-known-t c = search needs
 
-same-pair-requires : tie.Need-same-pair-requires
-same-pair-requires c κs = search needs
-
-enum-known-t-2 : tie.Need-enum-known-t-2
-enum-known-t-2 c = search needs
-
 rule-layer-requires : tie.Need-rule-layer-requires
 rule-layer-requires c κs = search needs
 
 cast-result : tie.Need-cast-result
 cast-result c = search needs
 
-enum-known-t-3 : tie.Need-enum-known-t-3
-enum-known-t-3 c = search needs
+enum-known-t-2 : tie.Need-enum-known-t-2
+enum-known-t-2 c = search needs
 
 layer-weight-requires : tie.Need-layer-weight-requires
 layer-weight-requires c κs = search needs
@@ -57,9 +51,6 @@ returns-4 c = rw (c .before .before .t .given .1) (cc)
 returns-5 : tie.Need-returns-5
 returns-5 c = rw (c .before .before .t2 .given .1) (cc)
 
-returns-6 : tie.Need-returns-6
-returns-6 c = rw (c .before .before .t3 .given .1) (cc)
-
 pub holds-spec : {M : Type 1} → statement M
 holds-spec =
     tie.close
@@ -71,15 +62,12 @@ holds-spec =
     enum-told-3
     rule-bad-requires
     enum-known-t
-    same-pair-requires
-    enum-known-t-2
     rule-layer-requires
     cast-result
-    enum-known-t-3
+    enum-known-t-2
     layer-weight-requires
     returns
     returns-2
     returns-3
     returns-4
-    returns-5
-    returns-6)
+    returns-5)

@@ -1,94 +1,31 @@
--- `shape::repeat_fault` meets its contract: no rule below `i` is at fault, and all of them are marked.
-use mathlib.Core.Path.{_≡_}
-use Prim.Native.Nat.{_≤_, _-_}
+-- `shape::repeat_fault` meets its contract: at most two searches, of which the last tells.
+use mathlib.Core.Bool.{not}
 use borrow.Author.Needs.{needs}
-use lib.ListN.{length}
-use Rattle.theory.specs.Below.{Clear}
-use Rattle.theory.specs.Below.Scan.{scan}
-use Rattle.shape.specs.Shape.{repeats}
-use Rattle.shape.specs.Code.{rowOf, columnOf}
-use Rattle.shape.specs.Shape.Marks.{Marked, marked-none, marked-more, mark-tells, length-kept}
+use Rattle.theory.specs.Bool.{bit}
+use Rattle.shape.specs.Shape.Marks.{search-ends, search-follows}
 use Rattle.shape.proofs.repeat_fault.Statement.{statement}
 use Rattle.shape.proofs.repeat_fault.Tie as tie
 
 abbrev Inv-loop : tie.InvT-loop
-Inv-loop rules z marks₀ i₀ marks i =
-    (i ≤ z .rules) × (length marks ≡ 64) × Clear (repeats rules) i × Marked (rowOf rules) (columnOf rules) marks i
+Inv-loop rules n whole₀ whole = Unit {0}
 
 abbrev μ-loop : tie.MeasureT-loop
-μ-loop rules z marks₀ i₀ marks i = z .rules - i
+μ-loop rules n whole₀ whole = bit (not whole)
 
 loop-holds : tie.Need-loop-holds Inv-loop μ-loop
-loop-holds c = search (scan, marked-none, needs)
+loop-holds c = tt
 
-mark-row-requires : tie.Need-mark-row-requires Inv-loop μ-loop
-mark-row-requires c κs = search needs
-
-mark-column-requires : tie.Need-mark-column-requires Inv-loop μ-loop
-mark-column-requires c κs = search needs
-
-mul-has : tie.Need-mul-has Inv-loop μ-loop
-mul-has c = search needs
-
-array-read-has : tie.Need-array-read-has Inv-loop μ-loop
-array-read-has c = search needs
-
-has-requires : tie.Need-has-requires Inv-loop μ-loop
-has-requires c κs = search needs
-
-rule-repeats-requires : tie.Need-rule-repeats-requires Inv-loop μ-loop
-rule-repeats-requires c κs = search needs
+first-again-requires : tie.Need-first-again-requires Inv-loop μ-loop
+first-again-requires c κs = search needs
 
 returns : tie.Need-returns Inv-loop μ-loop
-returns c = search (scan, mark-tells, needs)
-
-mul-with-if : tie.Need-mul-with-if Inv-loop μ-loop
-mul-with-if c = search needs
-
-array-read-with-if : tie.Need-array-read-with-if Inv-loop μ-loop
-array-read-with-if c = search needs
-
-with-if-requires : tie.Need-with-if-requires Inv-loop μ-loop
-with-if-requires c κs = search needs
-
-mul-marks : tie.Need-mul-marks Inv-loop μ-loop
-mul-marks c = search needs
-
-array-write-marks : tie.Need-array-write-marks Inv-loop μ-loop
-array-write-marks c = search needs
-
-add-i : tie.Need-add-i Inv-loop μ-loop
-add-i c = search needs
+returns c = search (search-ends, needs)
 
 loop-less : tie.Need-loop-less Inv-loop μ-loop
-loop-less c = search needs
+loop-less c = search (search-follows, needs)
 
 loop-again : tie.Need-loop-again Inv-loop μ-loop
-loop-again c = (search needs, search (length-kept, needs), search (scan, mark-tells, needs), search (marked-more, needs))
-
-returns-2 : tie.Need-returns-2 Inv-loop μ-loop
-returns-2 c = search (scan, needs)
+loop-again c = tt
 
 pub repeat-fault-spec : {M : Type 1} → statement M
-repeat-fault-spec =
-    tie.close
-    (tie.spec
-    Inv-loop
-    μ-loop
-    loop-holds
-    mark-row-requires
-    mark-column-requires
-    mul-has
-    array-read-has
-    has-requires
-    rule-repeats-requires
-    returns
-    mul-with-if
-    array-read-with-if
-    with-if-requires
-    mul-marks
-    array-write-marks
-    add-i
-    loop-less
-    loop-again
-    returns-2)
+repeat-fault-spec = tie.close (tie.spec Inv-loop μ-loop loop-holds first-again-requires returns loop-less loop-again)

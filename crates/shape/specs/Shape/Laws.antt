@@ -1,6 +1,6 @@
 -- Laws for the functions of the shape. Assumes nothing.
 use mathlib.Core.Path.{_≡_, refl, sym, ap, _∙_}
-use mathlib.Core.Bool.{Bool, true, false, not, _&&_, _||_, or-false}
+use mathlib.Core.Bool.{Bool, true, false, not, _||_, or-false}
 use mathlib.Core.List.{List, [], _∷_, _++_}
 use Prim.Native.Nat.{ℕ, suc, _+_, _-_, _≤_, _<_}
 use native.Mathlib.Decide.{decLt}
@@ -9,18 +9,18 @@ use mathlib.Core.Logic.{by-cases}
 use borrow.Author.Tests.{lt-ltb, le-ltb, eq-eqb, ne-eqb, eqb-true, eqb-false}
 use lib.Dec.{ltb, eqb}
 use lib.ListN.{length}
-use Rattle.theory.specs.Bool.Laws.{by-test, is-false}
+use Rattle.theory.specs.Bool.Laws.{by-test}
 use Rattle.theory.specs.Below.{firstBelow, anyBelow}
-use Rattle.theory.specs.Below.Laws.{first-is, first-passes, first-lowest, any-elim}
+use Rattle.theory.specs.Below.Laws.{first-is, first-passes, first-lowest}
 use Rattle.theory.specs.Below.Scan.{first-any, found}
-use Rattle.format.specs.Format.{sectionsOf, isInput, ruleP, ruleQ, ruleOf}
+use Rattle.format.specs.Format.{sectionsOf, isInput, ruleOf}
 use Rattle.format.specs.Code.{sections}
 use Rattle.format.specs.declared.Sizes.{Sizes}
 use Rattle.format.specs.declared.Header.{Header}
 use Rattle.format.specs.declared.Rule.{Rule}
 use Rattle.theory.specs.Judge.{judge}
 use Rattle.theory.specs.Judge.Laws.{judge-map}
-use Rattle.shape.specs.Shape.{refusal, nth, otherBits, samePair, inLayer, tooLarge, badState, badFields, badRule, repeats, badLayer}
+use Rattle.shape.specs.Shape.{refusal, nth, otherBits, inLayer, tooLarge, badState, badFields, badRule, badLayer}
 use Rattle.shape.specs.Shape.{sectionTests, byShape}
 use Rattle.shape.specs.Code.{testedOf, asShape, refusalOf}
 use Rattle.shape.specs.declared.Refusal.{Refusal}
@@ -130,21 +130,6 @@ module _ (z : Sizes) (states : List ℕ) where
 -- The rule x has been read.
 pub bad-read : (z : Sizes) (rules : List ℕ) (r : ℕ) (x : Rule) (t : Bool) → x ≡ ruleOf rules r → t ≡ badFields z x → t ≡ badRule z rules r
 bad-read z rules r x t e h = h ∙ ap (badFields z) e
-
-pub pair-read : (rules : List ℕ) (r e : ℕ) (x y : Rule) (t : Bool) → x ≡ ruleOf rules e → y ≡ ruleOf rules r
-    → t ≡ (eqb (x .p) (y .p) && eqb (x .q) (y .q)) → t ≡ samePair rules r e
-pair-read rules r e x y t a b h =
-    h
-    ∙ ap (λ (v : Rule). eqb (v .p) (y .p) && eqb (v .q) (y .q)) a
-    ∙ ap (λ (v : Rule). eqb (ruleP rules e) (v .p) && eqb (ruleQ rules e) (v .q)) b
-
-pub repeats-found : (rules : List ℕ) (r k : ℕ) → k ≡ firstBelow r (samePair rules r) → ltb k r ≡ repeats rules r
-unfolding repeats
-repeats-found rules r k = found r (samePair rules r) k
-
-pub repeats-none : (rules : List ℕ) (r : ℕ) → ((e : ℕ) → e < r → samePair rules r e ≡ true → ⊥) → repeats rules r ≡ false
-unfolding repeats
-repeats-none rules r h = is-false _ (λ t. let s = any-elim r (samePair rules r) t in h (s .0) (s .1) (s .2))
 
 pub layer-found : (z : Sizes) (rules layers : List ℕ) (l j : ℕ) (t : Bool) → t ≡ anyBelow (z .rules) (inLayer rules l)
     → j ≡ firstBelow (z .states) (tooLarge (z .states) layers l)

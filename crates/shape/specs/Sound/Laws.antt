@@ -14,17 +14,18 @@ use Rattle.theory.specs.Below.Laws.{any-elim, any-intro, any-fails}
 use Rattle.theory.specs.Protocol.{WellFormed}
 use Rattle.theory.specs.Ladder.{OrderedPartition}
 use Rattle.format.specs.Bytes.{section}
-use Rattle.format.specs.Format.{headerOf, Sections, sectionsOf, flags, isInput, ruleP, ruleQ, ruleP′, ruleQ′, ruleLayer, layerWeight}
+use Rattle.format.specs.Format.{headerOf, Sections, sectionsOf, flags, isInput, ruleP, ruleQ, ruleP′, ruleQ′, ruleLayer, ruleOf, layerWeight}
 use Rattle.format.specs.Format.{protocolOf, layersOf}
 use Rattle.format.specs.declared.Sizes.{Sizes}
 use Rattle.format.specs.declared.Header.{Header}
 use Rattle.theory.specs.Judge.{Passes}
 use Rattle.theory.specs.Judge.Laws.{judge-passes, passes-judge}
-use Rattle.shape.specs.Shape.{refusal, countFaults, offsetFaults, nth, otherBits, samePair, inLayer, tooLarge, badState, badRule, repeats, badLayer}
-use Rattle.shape.specs.Shape.{sectionTests, shapeTests, headerShape, shapeOf}
+use Rattle.shape.specs.Shape.{refusal, countFaults, offsetFaults, nth, otherBits, sameBefore, sameRule, inLayer, tooLarge}
+use Rattle.shape.specs.Shape.{badState, badRule, repeats, badLayer, sectionTests, shapeTests, headerShape, shapeOf}
 use Rattle.shape.specs.declared.Refusal.{Refusal}
 use Rattle.shape.specs.declared.Shape.{Shape}
 use Rattle.shape.specs.declared.Shape.the-variants.{Sound, Refused}
+use Rattle.shape.specs.Shape.Marks.{pair-same}
 use Rattle.shape.specs.Sound.{Limits, Laid, SoundSections, SoundShape}
 use Rattle.shape.specs.Code.{Lengths}
 
@@ -84,9 +85,13 @@ module _ (z : Sizes) where
         at-end s = eqb s (z .states) && not (anyBelow (z .states) (isInput z states))
 
     -- Test 7.
-    pair-clear : Clear (repeats rules) (z .rules) → (e r : ℕ) → e < r → r < z .rules → ruleP rules e ≡ ruleP rules r → ruleQ rules e ≡ ruleQ rules r → ⊥
+    repeat-clear : Clear (repeats rules) (z .rules) → (e r : ℕ) → e < r → r < z .rules → ruleP rules e ≡ ruleP rules r → ruleQ rules e ≡ ruleQ rules r
+        → ruleP′ rules e ≡ ruleP′ rules r → ruleQ′ rules e ≡ ruleQ′ rules r → ⊥
     unfolding repeats
-    pair-clear clear e r k l p q = not-both (and-intro _ _ (eq-eqb _ _ p) (eq-eqb _ _ q)) (any-fails r (samePair rules r) (clear r l) e k)
+    repeat-clear clear e r k l p q p′ q′ =
+        not-both
+        (and-intro _ _ (and-intro _ _ (eq-eqb _ _ p) (eq-eqb _ _ q)) (and-intro _ _ (eq-eqb _ _ p′) (eq-eqb _ _ q′)))
+        (any-fails r (sameRule rules r) (clear r l) e k)
 
     -- Test 8.
     layer-clear : Clear (badLayer z rules layers) (z .layers) → (l : ℕ) → l < z .layers
@@ -163,7 +168,7 @@ module _ (z : Sizes) where
             covers = λ r l. rule r l .layer-lt;
             non-empty = λ k l. let f = any-elim _ _ (layer-clear t8 k l .0) in (f .0, f .1, eqb-true _ _ (f .2));
           };
-          pairs-distinct = pair-clear t7;
+          rules-distinct = repeat-clear t7;
           weights-most = λ l s k m. ltb-false _ _ (any-fails _ _ (layer-clear t8 l k .1) s m);
         }
 
@@ -207,9 +212,11 @@ module _ (z : Sizes) where
         t7 r l =
             is-false _
             (λ e.
-            let f = any-elim r (samePair rules r) e in
-            let s = and-elim (eqb (ruleP rules (f .0)) (ruleP rules r)) _ (f .2) in
-            g .pairs-distinct (f .0) r (f .1) l (eqb-true _ _ (s .0)) (eqb-true _ _ (s .1)))
+            let f = any-elim r (sameRule rules r) e in
+            let s = and-elim (sameBefore (ruleOf rules (f .0)) (ruleOf rules r)) _ (f .2) in
+            let before = pair-same _ _ _ _ (s .0) in
+            let after = pair-same _ _ _ _ (s .1) in
+            g .rules-distinct (f .0) r (f .1) l (before .0) (before .1) (after .0) (after .1))
 
         t8 : Clear (badLayer z rules layers) (z .layers)
         t8 l k =

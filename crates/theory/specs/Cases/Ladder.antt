@@ -9,7 +9,7 @@ use Rattle.theory.specs.Bool.Laws.{is-false}
 use Rattle.theory.specs.Below.{firstBelow}
 use Rattle.theory.specs.Below.Laws.{all-elim}
 use Rattle.theory.specs.Protocol.{size, terminal, after, meetings}
-use Rattle.theory.specs.Cases.Protocol.{column, rows, broadcast, twins, majority}
+use Rattle.theory.specs.Cases.Protocol.{column, rows, broadcast, twins, majority, twoOutcomes}
 use Rattle.theory.specs.Ladder.{Layers, lowersAt, lowering, handoverAt, handover, active, layered, spreads, rank}
 use Rattle.theory.specs.Unfold.{laddering}
 
@@ -34,6 +34,10 @@ voteWeights = rows ((1 ∷ 1 ∷ 0 ∷ 1 ∷ []) ∷ (0 ∷ 0 ∷ 1 ∷ 0 ∷ []
 abbrev steepWeights : ℕ → ℕ → ℕ
 steepWeights = rows ((5 ∷ 5 ∷ 3 ∷ 5 ∷ []) ∷ (1 ∷ 1 ∷ 4 ∷ 1 ∷ []) ∷ [])
 
+-- Weights of twoOutcomes.
+abbrev pub outcomeWeights : ℕ → ℕ → ℕ
+outcomeWeights = rows ((1 ∷ 0 ∷ 0 ∷ []) ∷ [])
+
 -- With the weights 0, 0 lowering fails at rule 0.
 pub P3 : firstBelow 1 (λ r. not (lowersAt broadcast oneLayer (λ _ _. 0) r)) ≡ 0
 unfolding laddering
@@ -47,6 +51,14 @@ pub tight : (lowering twins oneLayer castWeights ≡ true)
     × (terminal twins (after twins (2 ∷ 0 ∷ []) (0 ∷ [])) ≡ false)
 unfolding laddering
 tight = (refl, refl, refl, refl, refl)
+
+-- Each of the rules for one pair has to lower: with the weights 1 0 1 rules 0 and 2 of twoOutcomes do, and rule 1 does not.
+pub each-outcome : (lowering twoOutcomes oneLayer outcomeWeights ≡ true)
+    × (handover twoOutcomes oneLayer ≡ true)
+    × (lowering twoOutcomes oneLayer (rows ((1 ∷ 0 ∷ 1 ∷ []) ∷ [])) ≡ false)
+    × (firstBelow 3 (λ r. not (lowersAt twoOutcomes oneLayer (rows ((1 ∷ 0 ∷ 1 ∷ []) ∷ [])) r)) ≡ 1)
+unfolding laddering
+each-outcome = (refl, refl, refl, refl)
 
 -- The ladder of majority passes; the rest bound of n agents is 2 n.
 pub ladder-passes : (lowering majority twoLayers voteWeights ≡ true) × (handover majority twoLayers ≡ true) × (spreads majority twoLayers voteWeights ≡ 2)

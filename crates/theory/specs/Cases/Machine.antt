@@ -4,7 +4,7 @@ use mathlib.Core.Bool.{true, false}
 use mathlib.Core.List.{List, [], _∷_}
 use Prim.Native.Nat.{ℕ}
 use Rattle.theory.specs.Protocol.{Protocol}
-use Rattle.theory.specs.Cases.Protocol.{broadcast, majority}
+use Rattle.theory.specs.Cases.Protocol.{column, broadcast, majority, twoOutcomes}
 use Rattle.theory.specs.Cases.Ladder.{oneLayer, twoLayers, exchanged}
 use Rattle.theory.specs.Ladder.{Layers}
 use Rattle.theory.specs.Machine.Lists.{lastCounts, reported}
@@ -63,3 +63,12 @@ pub machine : (runNumbers majority twoLayers 4294967295 (2 ∷ 1 ∷ 0 ∷ 0 ∷
     × (reported majority twoLayers (2 ∷ 1 ∷ 0 ∷ 0 ∷ []) (run 5 ∷ []) ≡ 2)
 unfolding calling
 machine = (refl, refl, refl, refl, refl, refl, refl, refl, refl, refl, refl, refl)
+
+-- Rules 0 and 1 of twoOutcomes have one before pair. A step tries the number given; a run uses the lower number, or the one
+-- of the lower layer.
+pub outcome-chosen : (lastCounts twoOutcomes oneLayer (1 ∷ 1 ∷ 0 ∷ []) (step 0 ∷ []) ≡ 0 ∷ 2 ∷ 0 ∷ [])
+    × (lastCounts twoOutcomes oneLayer (1 ∷ 1 ∷ 0 ∷ []) (step 1 ∷ []) ≡ 0 ∷ 1 ∷ 1 ∷ [])
+    × (runNumbers twoOutcomes oneLayer 4294967295 (1 ∷ 1 ∷ 0 ∷ []) ≡ 0 ∷ [])
+    × (runNumbers twoOutcomes (record { count = 2; of = column (1 ∷ 0 ∷ 0 ∷ []) }) 4294967295 (1 ∷ 1 ∷ 0 ∷ []) ≡ 1 ∷ [])
+unfolding calling
+outcome-chosen = (refl, refl, refl, refl)

@@ -5,7 +5,7 @@ use mathlib.Core.List.{List, [], _∷_}
 use Prim.Native.Nat.{ℕ}
 use lib.ListN.{getD}
 use lib.Dec.{eqb, ltb}
-use Rattle.theory.specs.Protocol.{Protocol, agreed, mixed, enabled, fires, after, meetings, outputOf, startTest}
+use Rattle.theory.specs.Protocol.{Protocol, agreed, mixed, enabled, fires, terminal, after, meetings, outputOf, startTest}
 use Rattle.theory.specs.Unfold.{meeting}
 
 -- The i-th number of a list, 0 behind its end.
@@ -64,3 +64,28 @@ verdicts = (refl, refl, refl)
 pub start-tests : (startTest majority (2 ∷ 1 ∷ 0 ∷ 0 ∷ []) ≡ 4) × (startTest majority (1 ∷ 0 ∷ 1 ∷ 1 ∷ []) ≡ 2) × (startTest majority (0 ∷ 0 ∷ 0 ∷ 2 ∷ []) ≡ 3)
 unfolding meeting
 start-tests = (refl, refl, refl)
+
+-- ---- Two outcomes for one pair
+
+-- Three states of which 0 and 1 are inputs. Rules 0 1 to 1 1, 0 1 to 1 2 and 0 2 to 1 2. States 1 and 2 have output 1.
+abbrev pub twoOutcomes : Protocol
+twoOutcomes = record {
+  states = 3;
+  rules = 3;
+  p = λ _. 0;
+  q = column (1 ∷ 1 ∷ 2 ∷ []);
+  p′ = λ _. 1;
+  q′ = column (1 ∷ 2 ∷ 2 ∷ []);
+  output = λ s. ltb 0 s;
+  input = λ s. ltb s 2;
+}
+
+-- From 1 1 0 the two rules of the pair 0 1 lead to two terminal configurations, of one output.
+pub outcomes : (after twoOutcomes (1 ∷ 1 ∷ 0 ∷ []) (0 ∷ []) ≡ 0 ∷ 2 ∷ 0 ∷ [])
+    × (after twoOutcomes (1 ∷ 1 ∷ 0 ∷ []) (1 ∷ []) ≡ 0 ∷ 1 ∷ 1 ∷ [])
+    × (terminal twoOutcomes (0 ∷ 2 ∷ 0 ∷ []) ≡ true)
+    × (terminal twoOutcomes (0 ∷ 1 ∷ 1 ∷ []) ≡ true)
+    × (outputOf twoOutcomes (0 ∷ 2 ∷ 0 ∷ []) ≡ agreed true)
+    × (outputOf twoOutcomes (0 ∷ 1 ∷ 1 ∷ []) ≡ agreed true)
+unfolding meeting
+outcomes = (refl, refl, refl, refl, refl, refl)

@@ -10,7 +10,7 @@ use Rattle.theory.specs.Facts.{Facts, withAbsent, withPresent, withAtMos
 use Rattle.theory.specs.Leaf.{leafCloses, signed, signedSum, upperSum, lowerSum}
 use Rattle.theory.specs.Tree.{caseSplit, trap, siphon, children}
 use Rattle.theory.specs.Tree.{Tree, Walked, next, refused, takes, puts, touches, disagreement, treeAnswer}
-use Rattle.theory.specs.Cases.Protocol.{column, rows, broadcast, twins, majority}
+use Rattle.theory.specs.Cases.Protocol.{column, rows, broadcast, twins, majority, twoOutcomes}
 use Rattle.theory.specs.Unfold.{walking, closing}
 
 -- A tree of n nodes, each a row of kind, party, argument and set; with k leaves.
@@ -22,10 +22,14 @@ tree n k nodes =
 abbrev pub noWeights : ℕ → ℕ → ℕ
 noWeights k s = 10000
 
--- The answer, where leaf 1 has the weights w and those of every other leaf are 0. Weights are biased by 10,000.
+-- Leaf 1 has the weights w, and those of every other leaf are 0.
+abbrev pub leafWeights : (ℕ → ℕ → ℕ) → ℕ → ℕ → ℕ → ℕ
+leafWeights w l = cond (eqb l 1) w noWeights
+
+-- The answer with these leaves. Weights are biased by 10,000.
 unfoldable pub answerWith : (ℕ → ℕ → ℕ) → Protocol → Tree → Walked
 unfolding walking
-answerWith w P T = treeAnswer P (disagreement P (λ l. cond (eqb l 1) w noWeights)) T
+answerWith w P T = treeAnswer P (disagreement P (leafWeights w)) T
 
 -- The answer, where the weights of every leaf are 0.
 abbrev pub answer : Protocol → Tree → Walked
@@ -159,6 +163,26 @@ pub trees : (answer broadcast (tree 5 0 (cast 2)) ≡ next 5)
     × (answer twins (tree 2 0 ((3 ∷ 1 ∷ 0 ∷ 0 ∷ []) ∷ (1 ∷ 1 ∷ 0 ∷ 0 ∷ []) ∷ [])) ≡ refused 13 1)
 unfolding answerWith
 trees = (refl, refl, refl, refl, refl, refl, refl, refl)
+
+-- ---- Two outcomes for one pair
+
+-- Where neither rule 0 nor rule 2 of twoOutcomes is enabled at end 1, state 0 is absent there (nodes 1 and 3), or states 1
+-- and 2 are: their set is a trap, absent at the start too, so absent at end 2.
+abbrev pub outcomeTree : Tree
+outcomeTree =
+    tree 7 0
+    ((3 ∷ 1 ∷ 0 ∷ 0 ∷ [])
+    ∷ (1 ∷ 1 ∷ 0 ∷ 0 ∷ [])
+    ∷ (3 ∷ 1 ∷ 2 ∷ 0 ∷ [])
+    ∷ (1 ∷ 1 ∷ 0 ∷ 0 ∷ [])
+    ∷ (5 ∷ 1 ∷ 0 ∷ 6 ∷ [])
+    ∷ (6 ∷ 2 ∷ 0 ∷ 6 ∷ [])
+    ∷ (1 ∷ 2 ∷ 0 ∷ 0 ∷ [])
+    ∷ [])
+
+pub one-verdict : answer twoOutcomes outcomeTree ≡ next 7
+unfolding answerWith
+one-verdict = refl
 
 -- ---- Depth
 

@@ -1,7 +1,7 @@
--- A protocol with a certificate, so that the claims are not empty; and a configuration that is potentially reachable and
+-- Protocols with a certificate, so that the claims are not empty; and a configuration that is potentially reachable and
 -- not reachable.
 use mathlib.Core.Path.{_≡_, refl}
-use mathlib.Core.Bool.{true, false, cond}
+use mathlib.Core.Bool.{true, false}
 use mathlib.Core.List.{List, [], _∷_}
 use Prim.Native.Nat.{ℕ, zero, suc, _+_, _*_, _<_}
 use native.Mathlib.Omega.{arith}
@@ -12,14 +12,17 @@ use Rattle.theory.specs.Below.{sumBelow}
 use Rattle.theory.specs.Below.Laws.{all-elim}
 use Rattle.theory.specs.Weigh.Laws.{set-none}
 use Rattle.theory.specs.Protocol.{Protocol, count, pre, post, terminal}
-use Rattle.theory.specs.Cases.Protocol.{column, broadcast}
-use Rattle.theory.specs.Cases.Ladder.{oneLayer, castWeights}
+use Rattle.theory.specs.Cases.Protocol.{column, broadcast, twoOutcomes}
+use Rattle.theory.specs.Cases.Ladder.{oneLayer, castWeights, outcomeWeights}
+use Rattle.theory.specs.Cases.Tables.{formed, partitioned}
 use Rattle.theory.specs.Tree.{takes, puts}
 use Rattle.theory.specs.Tree.Traps.{follows-none}
-use Rattle.theory.specs.Cases.Tree.{tree, noWeights, answerWith, cast, trees}
+use Rattle.theory.specs.Cases.Tree.{tree, noWeights, leafWeights, answerWith, cast, trees, outcomeTree, one-verdict}
 use Rattle.theory.specs.Potential.{Potential}
 use Rattle.theory.specs.Claims.{Certified}
 use Rattle.theory.specs.Unfold.{meeting, laddering, walking}
+
+-- ---- Certificates
 
 -- The broadcast protocol has a certificate.
 pub P1 : Certified broadcast
@@ -28,24 +31,34 @@ P1 = record {
   layers = oneLayer;
   weight = castWeights;
   ladder = record {
-    formed = record {
-      p-lt = λ r l. omega arith;
-      q-lt = λ r l. omega arith;
-      p′-lt = λ r l. omega arith;
-      q′-lt = λ r l. omega arith;
-      pre-ordered = λ r l. omega arith;
-      post-ordered = λ r l. omega arith;
-      pairs-differ = λ r l e f. omega arith;
-      some-input = (0, omega arith, refl);
-    };
-    partition = record { covers = λ r l. omega arith; non-empty = λ k l. (0, omega arith, omega arith) };
+    formed = formed broadcast refl refl;
+    partition = partitioned broadcast oneLayer refl refl;
     lowering-passes = refl;
     handover-passes = refl;
   };
   tree = tree 5 0 (cast 2);
-  leafWeight = λ l. cond (eqb l 1) noWeights noWeights;
+  leafWeight = leafWeights noWeights;
   closed = trees .0;
 }
+
+-- So has one in which a pair has two outcomes.
+pub outcomes-certified : Certified twoOutcomes
+unfolding answerWith laddering
+outcomes-certified = record {
+  layers = oneLayer;
+  weight = outcomeWeights;
+  ladder = record {
+    formed = formed twoOutcomes refl refl;
+    partition = partitioned twoOutcomes oneLayer refl refl;
+    lowering-passes = refl;
+    handover-passes = refl;
+  };
+  tree = outcomeTree;
+  leafWeight = leafWeights noWeights;
+  closed = one-verdict;
+}
+
+-- ---- Potential reachability
 
 -- Rules aa to bb and bc to ad.
 abbrev borrowed : Protocol

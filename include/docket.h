@@ -66,7 +66,7 @@
 extern "C" {
 #endif
 
-#define DOCKET_VERSION "0.2.0"   /* of this header and its library */
+#define DOCKET_VERSION "0.3.0"   /* of this header and its library */
 #define DOCKET_MAX_BYTES 65535   /* a longer file is refused with 1, 0; so read at most one byte more */
 #define DOCKET_MAX_STATES 64     /* counts for every docket fit an array of so many */
 #define DOCKET_STACK 65536       /* bytes of stack that are enough for every function */

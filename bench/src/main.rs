@@ -155,6 +155,10 @@ fn checks() -> Vec<(String, Vec<u8>)> {
         "check, 2,048 nodes, 128 leaves, 256 rules".into(),
         make::layered(64, 256, 1, 2048, 128),
     ));
+    dockets.push((
+        "check, sums modulo 17, 128 leaves closed by kind 7".into(),
+        make::remainder::many_leaves(),
+    ));
     for rules in [32, 64, 128, 256] {
         dockets.push((
             format!("check, mostly handover, {rules} rules, 16 layers"),

@@ -35,13 +35,23 @@ pub struct Rule {
     pub layer: usize,
 }
 
-/// A node of the tree; `set[i]` says that the set names state i.
+/// A node of the tree; `set[i]` is bit i of its set field, and says in kinds 5 and 6 that the set names state i.
 #[derive(Clone, Copy, Debug, PartialEq, Eq)]
 pub struct Node {
     pub kind: u8,
     pub party: usize,
     pub argument: usize,
     pub set: [bool; 64],
+}
+
+impl Node {
+    /// The set field as a number, which in kind 7 is the modulus.
+    pub fn modulus(&self) -> u64 {
+        self.set
+            .iter()
+            .rev()
+            .fold(0, |number, &bit| 2 * number + u64::from(bit))
+    }
 }
 
 /// A leaf's weights for end 1 and for end 2.
@@ -296,13 +306,17 @@ pub(crate) mod samples {
     }
 
     fn node(row: &[u64]) -> Node {
-        let set = std::array::from_fn(|state| row[3] >> state & 1 == 1);
         Node {
             kind: row[0] as u8,
             party: row[1] as usize,
             argument: row[2] as usize,
-            set,
+            set: bits(row[3]),
         }
+    }
+
+    /// A set field with this number.
+    pub fn bits(number: u64) -> [bool; 64] {
+        std::array::from_fn(|bit| number >> bit & 1 == 1)
     }
 
     /// A docket with no leaf from the records of its states, rules, layers and nodes.
@@ -339,6 +353,21 @@ pub(crate) mod samples {
     pub fn majority() -> Docket {
         let rules = "0 1 2 3 0; 0 3 0 2 0; 1 2 1 3 1; 2 3 3 3 1";
         docket("2 3 0 1", rules, "1 1 0 1; 0 0 1 0", "1 1 0 0")
+    }
+
+    /// Whether the number of workers is odd: states O, E, o, e, and a node of kind 7.
+    pub fn parity() -> Docket {
+        let rules = "0 0 1 3 0; 0 1 0 2 0; 1 1 1 3 0; 0 3 0 2 1; 1 2 1 3 2";
+        let even_at_end_2 = "3 2 4 0; 5 2 0 3; 6 2 0 15; 1 2 0 0; 1 2 0 0";
+        let odd_at_end_2 = "3 2 0 0; 4 2 0 0; 5 2 0 3; 6 2 0 15; 1 2 0 0; 7 0 0 2";
+        let odd_at_end_1 = "3 1 3 0; 5 1 0 3; 6 1 0 15; 1 1 0 0; 1 1 0 0";
+        let nodes = format!("3 1 1 0; 3 2 1 0; {even_at_end_2}; {odd_at_end_2}; {odd_at_end_1}");
+        let weights = "1 1 0 0; 0 0 0 1; 0 0 1 0";
+        let y = vec![1, 0, 0, 0];
+        Docket {
+            leaves: vec![Leaf { y1: y.clone(), y2: y }],
+            ..docket("3 0 1 0", rules, weights, &nodes)
+        }
     }
 
     /// Majority with layers and weights exchanged.

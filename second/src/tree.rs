@@ -1,8 +1,10 @@
 //! The tree: leaf weights (test 11), fields and grounds of the nodes (tests 12 and 13), and the widest set.
 
 use crate::docket::{refuse, together, Docket, Leaf, Node, Refusal, Rule};
+use std::ops::RangeInclusive;
 
 const GREATEST_DEPTH: usize = 40;
+const MODULI: RangeInclusive<u64> = 2..=1000;
 
 /// What is known on the way down. The first index is the party: 0 the start, 1 and 2 the runs with their ends. The
 /// second is the state, or for `unused` the rule.
@@ -34,10 +36,11 @@ pub(crate) fn tree_test(docket: &Docket) -> Result<(), Refusal> {
     Ok(())
 }
 
-/// How many states the widest set of the tree names.
+/// How many states the widest set of the tree names; only nodes of kinds 5 and 6 have sets.
 pub(crate) fn widest(docket: &Docket) -> u64 {
     let size = |node: &Node| node.set.iter().filter(|&&named| named).count() as u64;
-    docket.nodes.iter().map(size).max().unwrap_or(0)
+    let with_set = docket.nodes.iter().filter(|node| matches!(node.kind, 5 | 6));
+    with_set.map(size).max().unwrap_or(0)
 }
 
 /// Tests the node at a place and all below it; hands back the place after them.
@@ -63,12 +66,14 @@ fn fields_hold(docket: &Docket, node: &Node) -> bool {
     let no_set = !node.set.contains(&true);
     let subset = !node.set[docket.states.len()..].contains(&true);
     let run = node.party == 1 || node.party == 2;
+    let leaf = node.party == 0 && node.argument < docket.leaves.len();
     match node.kind {
-        0 => node.party == 0 && node.argument < docket.leaves.len() && no_set,
+        0 => leaf && no_set,
         1 => run && node.argument == 0 && no_set,
         2 | 4 => node.party <= 2 && node.argument < docket.states.len() && no_set,
         3 => run && node.argument < docket.rules.len() && no_set,
         5 | 6 => run && node.argument == 0 && !no_set && subset,
+        7 => leaf && MODULI.contains(&node.modulus()),
         _ => false,
     }
 }
@@ -81,6 +86,7 @@ fn ground_holds(docket: &Docket, facts: &Facts, node: &Node) -> bool {
         2 => facts.present[node.party][node.argument] && facts.absent[node.party][node.argument],
         5 => trap_holds(docket, facts, node),
         6 => siphon_holds(docket, facts, node),
+        7 => remainder_closes(docket, facts, &docket.leaves[node.argument], node.modulus() as i64),
         _ => true,
     }
 }
@@ -111,10 +117,8 @@ fn meets(pair: [usize; 2], set: &[bool; 64]) -> bool {
 /// The leaf rule: no rule not unused raises its run's weights, and the lower sum exceeds the upper sum.
 fn leaf_closes(docket: &Docket, facts: &Facts, leaf: &Leaf) -> bool {
     let raises = |y: &[i64], rule: &Rule| together(y, rule.after) > together(y, rule.before);
-    let raised = !facts.all_unused(docket, 1, |rule| raises(&leaf.y1, rule))
-        || !facts.all_unused(docket, 2, |rule| raises(&leaf.y2, rule));
     match (lower_sum(facts, leaf), upper_sum(facts, leaf)) {
-        (Some(lower), Some(upper)) => !raised && lower > upper,
+        (Some(lower), Some(upper)) => facts.rules_fit(docket, leaf, raises) && lower > upper,
         _ => false,
     }
 }
@@ -122,15 +126,12 @@ fn leaf_closes(docket: &Docket, facts: &Facts, leaf: &Leaf) -> bool {
 /// The upper sum; none if y1 + y2 is above 0 at a state not absent at the start.
 fn upper_sum(facts: &Facts, leaf: &Leaf) -> Option<i64> {
     let mut sum = 0;
-    for (state, (y1, y2)) in leaf.y1.iter().zip(&leaf.y2).enumerate() {
-        if facts.absent[0][state] {
-            continue;
-        }
-        if y1 + y2 > 0 {
+    for (state, both) in facts.start_weights(leaf) {
+        if both > 0 {
             return None;
         }
         if facts.present[0][state] {
-            sum += y1 + y2;
+            sum += both;
         }
     }
     Some(sum)
@@ -139,20 +140,42 @@ fn upper_sum(facts: &Facts, leaf: &Leaf) -> Option<i64> {
 /// The lower sum; none if a weight is negative at a state that is neither absent nor at most one at that end.
 fn lower_sum(facts: &Facts, leaf: &Leaf) -> Option<i64> {
     let mut sum = 0;
-    for (k, y) in [(1, &leaf.y1), (2, &leaf.y2)] {
-        for (state, &weight) in y.iter().enumerate() {
-            if facts.absent[k][state] {
-                continue;
-            }
-            if weight < 0 && !facts.at_most_one[k][state] {
-                return None;
-            }
-            if weight < 0 || facts.present[k][state] {
-                sum += weight;
-            }
+    for (k, state, weight) in facts.end_weights(leaf) {
+        if weight < 0 && !facts.at_most_one[k][state] {
+            return None;
+        }
+        if weight < 0 || facts.present[k][state] {
+            sum += weight;
         }
     }
     Some(sum)
+}
+
+/// The remainder rule, modulo m: no rule not unused changes its run's weights, y1 + y2 is 0 for every state not absent
+/// at the start, and the sum of the ends is not 0.
+fn remainder_closes(docket: &Docket, facts: &Facts, leaf: &Leaf, m: i64) -> bool {
+    let changes = |y: &[i64], rule: &Rule| !is_multiple(together(y, rule.after) - together(y, rule.before), m);
+    let start = facts.start_weights(leaf).all(|(_, both)| is_multiple(both, m));
+    let ends = exactly_one_sum(facts, leaf, m).is_some_and(|sum| !is_multiple(sum, m));
+    facts.rules_fit(docket, leaf, changes) && start && ends
+}
+
+/// The sum of the weights of the states that are not absent and hold exactly one worker at their end; none if the
+/// weight of another state that is not absent is no multiple of m.
+fn exactly_one_sum(facts: &Facts, leaf: &Leaf, m: i64) -> Option<i64> {
+    let mut sum = 0;
+    for (k, state, weight) in facts.end_weights(leaf) {
+        if facts.present[k][state] && facts.at_most_one[k][state] {
+            sum += weight;
+        } else if !is_multiple(weight, m) {
+            return None;
+        }
+    }
+    Some(sum)
+}
+
+fn is_multiple(number: i64, m: i64) -> bool {
+    number.rem_euclid(m) == 0
 }
 
 impl Facts {
@@ -216,6 +239,25 @@ impl Facts {
         let mut rules = docket.rules.iter().enumerate();
         rules.all(|(r, rule)| self.unused[run][r] || !bad(rule))
     }
+
+    /// Whether every rule that is bad for the weights of a run is unused in that run.
+    fn rules_fit(&self, docket: &Docket, leaf: &Leaf, bad: impl Fn(&[i64], &Rule) -> bool) -> bool {
+        self.all_unused(docket, 1, |rule| bad(&leaf.y1, rule)) && self.all_unused(docket, 2, |rule| bad(&leaf.y2, rule))
+    }
+
+    /// The states not absent at the start, each with y1 + y2.
+    fn start_weights<'a>(&'a self, leaf: &'a Leaf) -> impl Iterator<Item = (usize, i64)> + 'a {
+        let both = leaf.y1.iter().zip(&leaf.y2).map(|(y1, y2)| y1 + y2);
+        both.enumerate().filter(|&(state, _)| !self.absent[0][state])
+    }
+
+    /// The states not absent at end 1 and those not absent at end 2: the end, the state and its weight there.
+    fn end_weights<'a>(&'a self, leaf: &'a Leaf) -> impl Iterator<Item = (usize, usize, i64)> + 'a {
+        let first = leaf.y1.iter().enumerate().map(|(state, &weight)| (1, state, weight));
+        let second = leaf.y2.iter().enumerate().map(|(state, &weight)| (2, state, weight));
+        let both = first.chain(second);
+        both.filter(|&(k, state, _)| !self.absent[k][state])
+    }
 }
 
 #[cfg(test)]
@@ -240,13 +282,14 @@ mod tests {
         ]);
     }
 
+    /// The docket has no leaf, so a node of kind 0 or 7 has no good argument.
     #[test]
     fn bad_fields_come_before_grounds() {
         let closing = [
             "0 0 0 0", "1 0 0 0", "1 3 0 0", "1 1 1 0", "1 1 0 1", "2 3 0 0", "2 0 2 0", "2 0 0 1",
         ];
         let open = [
-            "3 0 0 0", "3 1 1 0", "3 1 0 1", "4 3 0 0", "4 0 2 0", "5 0 0 2", "6 1 0 0", "7 0 0 0",
+            "3 0 0 0", "3 1 1 0", "3 1 0 1", "4 3 0 0", "4 0 2 0", "5 0 0 2", "6 1 0 0", "7 0 0 2",
         ];
         for nodes in [closing, open].concat() {
             trees(&[(nodes, "refused 12 0")]);
@@ -358,6 +401,179 @@ mod tests {
         assert!(leaf_closes(&docket, &facts, &leaf));
         facts.present[0][1] = true;
         assert!(leaf_closes(&docket, &facts, &leaf));
+    }
+
+    /// The parity docket after a change.
+    fn parity_line(change: impl FnOnce(&mut Docket)) -> String {
+        let mut docket = parity();
+        change(&mut docket);
+        line(&docket.bytes())
+    }
+
+    #[test]
+    fn parity_closes_modulo_2() {
+        assert_eq!(parity().bytes(), include_bytes!("../../examples/parity.docket"));
+        assert_eq!(parity_line(|_| ()), "accepted 4 5 3 18 3 4\n");
+        assert_eq!(parity_line(|d| d.nodes[12].set = bits(3)), "refused 13 12\n");
+        assert_eq!(parity_line(|d| d.nodes[7].argument = 2), "refused 13 12\n");
+        assert_eq!(parity_line(|d| d.leaves[0].y1[0] = -1), "accepted 4 5 3 18 3 4\n");
+        assert_eq!(parity_line(|d| d.leaves[0].y2[0] = 2), "refused 13 12\n");
+    }
+
+    /// A node of kind 7 has party 0, an argument below K, and a modulus that is all of the set field.
+    #[test]
+    fn fields_of_a_remainder() {
+        let said = |nodes: &str| {
+            let (y1, y2) = (vec![0, 0], vec![0, 0]);
+            let leaves = vec![Leaf { y1, y2 }];
+            let docket = Docket {
+                leaves,
+                ..broadcast(nodes)
+            };
+            line(&docket.bytes())
+        };
+        for nodes in ["7 0 0 2", "7 0 0 3", "7 0 0 1000"] {
+            assert_eq!(said(nodes), "refused 13 0\n", "{nodes}");
+        }
+        let moduli = [
+            "7 0 0 0",
+            "7 0 0 1",
+            "7 0 0 1001",
+            "7 0 0 65538",
+            "7 0 0 4294967298",
+            "7 0 0 9223372036854775810",
+            "7 0 0 18446744073709551615",
+        ];
+        let others = [
+            "7 1 0 2",
+            "7 2 0 2",
+            "7 255 0 2",
+            "7 0 1 2",
+            "7 0 256 2",
+            "8 0 0 2",
+            "255 0 0 2",
+        ];
+        for nodes in [moduli, others].concat() {
+            assert_eq!(said(nodes), "refused 12 0\n", "{nodes}");
+        }
+    }
+
+    /// Whether the remainder rule holds in a table whose one rule is 0 0 to 1 1, where only state 0 is an input, state 0
+    /// is absent at end 1 and exactly one at end 2, and state 1 absent at both; after a change of these facts.
+    fn remainder(y1: [i64; 2], y2: [i64; 2], m: i64, change: impl FnOnce(&mut Facts)) -> bool {
+        let docket = docket("3 1", "0 0 1 1 0", "1 0", "1 1 0 0");
+        let (y1, y2) = (y1.to_vec(), y2.to_vec());
+        let mut facts = Facts::fresh(&docket);
+        facts.absent[1][..2].fill(true);
+        facts.absent[2][1] = true;
+        facts.present[2][0] = true;
+        facts.at_most_one[2][0] = true;
+        change(&mut facts);
+        remainder_closes(&docket, &facts, &Leaf { y1, y2 }, m)
+    }
+
+    #[test]
+    fn rules_of_a_remainder() {
+        assert!(remainder([2, 0], [-2, 0], 4, |_| ()));
+        assert!(!remainder([2, 1], [-2, 0], 4, |_| ()));
+        assert!(!remainder([2, 0], [-2, 1], 4, |_| ()));
+        assert!(remainder([2, 1], [-2, 0], 4, |facts| facts.unused[1][0] = true));
+        assert!(!remainder([2, 1], [-2, 0], 4, |facts| facts.unused[2][0] = true));
+        assert!(remainder([2, 0], [-2, 1], 4, |facts| facts.unused[2][0] = true));
+        assert!(!remainder([2, 0], [-2, 1], 4, |facts| facts.unused[1][0] = true));
+    }
+
+    /// A state absent at the start is free of the remainder rule there, also where it is present.
+    #[test]
+    fn start_of_a_remainder() {
+        assert!(remainder([2, 0], [2, 0], 4, |_| ()));
+        assert!(!remainder([0, 0], [2, 0], 4, |_| ()));
+        assert!(remainder([0, 0], [2, 0], 4, |facts| facts.absent[0][0] = true));
+        assert!(remainder([0, 0], [2, 0], 4, |facts| {
+            facts.absent[0][0] = true;
+            facts.present[0][0] = true;
+        }));
+    }
+
+    /// State 0 needs to be absent or exactly one where its weight is no multiple of the modulus, and nowhere else.
+    #[test]
+    fn ends_of_a_remainder() {
+        let y = [2, 0];
+        assert!(!remainder(y, y, 4, |facts| facts.present[2][0] = false));
+        assert!(!remainder(y, y, 4, |facts| facts.at_most_one[2][0] = false));
+        assert!(!remainder(y, y, 4, |facts| facts.absent[1][0] = false));
+        assert!(remainder(y, y, 4, |facts| facts.absent[2][1] = false));
+        assert!(remainder([2, 4], [2, -4], 4, |facts| facts.absent[2][1] = false));
+        assert!(!remainder([2, 2], [2, 2], 4, |facts| facts.absent[2][1] = false));
+    }
+
+    /// Exactly one worker in state 0 at both ends.
+    #[test]
+    fn sum_of_a_remainder() {
+        let one_at_each = |facts: &mut Facts| {
+            facts.absent[1][0] = false;
+            facts.present[1][0] = true;
+            facts.at_most_one[1][0] = true;
+        };
+        assert!(!remainder([2, 0], [2, 0], 4, one_at_each));
+        let without_start = |facts: &mut Facts| {
+            one_at_each(facts);
+            facts.absent[0][0] = true;
+        };
+        assert!(remainder([4, 0], [2, 0], 4, without_start));
+        assert!(remainder([2, 0], [4, 0], 4, without_start));
+        assert!(!remainder([4, 0], [8, 0], 4, without_start));
+    }
+
+    /// An absent state does not join the sum, also where it is exactly one.
+    #[test]
+    fn absent_and_exactly_one() {
+        assert!(!remainder([2, 0], [2, 0], 4, |facts| facts.absent[2][0] = true));
+        assert!(remainder([2, 0], [2, 0], 4, |facts| {
+            facts.present[1][0] = true;
+            facts.at_most_one[1][0] = true;
+        }));
+    }
+
+    /// It closes where the weight of state 0 is a multiple of half the modulus, as the rule demands, and no multiple of
+    /// the modulus.
+    #[test]
+    fn weights_of_a_remainder() {
+        for (weight, m, closes) in [
+            (-1, 2, true),
+            (-2, 2, false),
+            (-3, 6, true),
+            (-3, 4, false),
+            (9_500, 1000, true),
+            (-9_500, 1000, true),
+            (-9_501, 1000, false),
+            (10_000, 1000, false),
+            (10_000, 32, true),
+            (-10_000, 32, true),
+            (-10_000, 3, false),
+        ] {
+            assert_eq!(remainder([weight, 0], [-weight, 0], m, |_| ()), closes, "{weight}, {m}");
+            assert_eq!(remainder([weight, 0], [weight, 0], m, |_| ()), closes, "{weight}, {m}");
+        }
+    }
+
+    /// Modulus 510 has eight bits; the widest set has one state, or there is none.
+    #[test]
+    fn modulus_is_no_set() {
+        let said = |nodes: &str| {
+            let (y1, y2) = (vec![255, 0], vec![255, 0]);
+            let docket = Docket {
+                leaves: vec![Leaf { y1, y2 }],
+                ..docket("3 1", "0 0 1 1 0", "1 0", nodes)
+            };
+            line(&docket.bytes())
+        };
+        let (first, last) = ("4 1 0 0; 3 2 0 0; 4 2 0 0; 1 1 0 0;", "7 0 0 510; 1 1 0 0");
+        assert_eq!(said(&format!("{first} {last}")), "accepted 2 1 1 6 1 0\n");
+        assert_eq!(
+            said(&format!("{first} 4 2 1 0; 5 2 0 2; {last}; 1 1 0 0")),
+            "accepted 2 1 1 9 1 1\n"
+        );
     }
 
     #[test]

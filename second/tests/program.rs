@@ -43,7 +43,7 @@ fn corpus() {
         );
         assert_eq!(text(&said.stderr), "", "{}", path.display());
     }
-    assert!(files >= 58, "{files} dockets in the corpus");
+    assert!(files >= 73, "{files} dockets in the corpus");
 }
 
 /// A read that fails is not taken for the end of the file.
@@ -69,21 +69,34 @@ fn version() {
     assert_eq!(version.trim_end(), env!("CARGO_PKG_VERSION"));
 }
 
-/// The bytes in docs/FORMAT.md are those of the example: lines of an offset, two spaces and hexadecimal numbers.
+/// The bytes under a heading of docs/FORMAT.md are those of the example: lines of an offset, two spaces and hexadecimal
+/// numbers.
 #[test]
-fn docket_in_the_format_page() {
+fn dockets_in_the_format_page() {
     let page = std::fs::read_to_string(repository().join("docs/FORMAT.md")).expect("docs/FORMAT.md");
+    for (heading, name) in [
+        ("### A docket with nodes of kinds 0 to 6 and a leaf", "majority"),
+        ("### A docket with a node of kind 7", "parity"),
+    ] {
+        let (_, section) = page.split_once(heading).expect("the section");
+        let bytes = bytes_of(section);
+        let example = std::fs::read(repository().join(format!("examples/{name}.docket"))).expect("the example");
+        assert_eq!(bytes, example, "{name}");
+        assert!(
+            section.contains(&format!("`{}`", second::line(&bytes).trim_end())),
+            "{name}"
+        );
+    }
+}
+
+/// The first bytes that a section shows.
+fn bytes_of(section: &str) -> Vec<u8> {
     let mut bytes: Vec<u8> = vec![];
-    let (_, section) = page
-        .split_once("### A docket with every kind of node and a leaf")
-        .expect("the section");
     for line in section.split("```").nth(1).expect("the bytes").lines() {
         if let Some((offset, row)) = line.trim_start().split_once("  ") {
             assert_eq!(offset.parse(), Ok(bytes.len()), "{line}");
             bytes.extend(row.split(' ').map(|byte| u8::from_str_radix(byte, 16).expect("a byte")));
         }
     }
-    let example = std::fs::read(repository().join("examples/majority.docket")).expect("the example");
-    assert_eq!(bytes, example);
-    assert!(section.contains(&format!("`{}`", second::line(&bytes).trim_end())));
+    bytes
 }

@@ -1,13 +1,13 @@
 //! Changes to dockets: those that keep a docket accepted, and faults of every kind.
 
-use crate::make::{node, rule};
+use crate::make::{bits, node, rule};
 use crate::random::Random;
 use second::{Docket, Leaf, Node, Rule};
 
 // ---- Changes that keep a docket accepted
 
-/// The same protocol and certificate written in another way: states and rules numbered anew, weights raised, leaves
-/// that no node names.
+/// The same protocol and certificate written in another way: states and rules numbered anew, weights raised, moduli
+/// multiplied, leaves that no node names.
 pub fn rewritten(docket: &Docket, random: &mut Random) -> Docket {
     let mut other = docket.clone();
     if random.chance(2, 3) {
@@ -18,6 +18,9 @@ pub fn rewritten(docket: &Docket, random: &mut Random) -> Docket {
     }
     if random.chance(1, 2) {
         raise_weights(&mut other, random);
+    }
+    if random.chance(1, 2) {
+        change_remainders(&mut other, random);
     }
     if random.chance(1, 4) {
         let count = random.below(129 - other.leaves.len().min(128));
@@ -54,7 +57,7 @@ fn renumber_states(docket: &mut Docket, random: &mut Random) {
         for (leaf, was) in docket.leaves.iter_mut().zip(&old.leaves) {
             (leaf.y1[at], leaf.y2[at]) = (was.y1[i], was.y2[i]);
         }
-        for (node, was) in docket.nodes.iter_mut().zip(&old.nodes) {
+        for (node, was) in docket.nodes.iter_mut().zip(&old.nodes).filter(|(_, was)| was.kind != 7) {
             node.set[at] = was.set[i];
         }
     }
@@ -129,6 +132,38 @@ fn raise_weights(docket: &mut Docket, random: &mut Random) {
             *weight = *weight * factor + more;
         }
     }
+}
+
+/// Multiplies a modulus and the weights of its leaf by one factor, and adds multiples of the new modulus to the weights,
+/// so that they lie anywhere within their limits.
+fn change_remainders(docket: &mut Docket, random: &mut Random) {
+    for at in 0..docket.leaves.len() {
+        let Some(old) = only_modulus(docket, at) else {
+            continue;
+        };
+        let factor = 1 + random.below(1000 / old as usize) as i64;
+        let new = old as i64 * factor;
+        let Leaf { y1, y2 } = &mut docket.leaves[at];
+        for weight in y1.iter_mut().chain(y2) {
+            let least = (*weight * factor + 10_000).rem_euclid(new) - 10_000;
+            let steps = (10_000 - least) / new;
+            *weight = least + new * random.below(steps as usize + 1) as i64;
+        }
+        let nodes = docket.nodes.iter_mut();
+        let named = nodes.filter(|node| node.kind == 7 && node.argument == at);
+        named.for_each(|node| node.set = bits(new as u64));
+    }
+}
+
+/// The modulus of all nodes that name a leaf; none where one of them is of kind 0 or two moduli differ.
+fn only_modulus(docket: &Docket, leaf: usize) -> Option<u64> {
+    let named = docket
+        .nodes
+        .iter()
+        .filter(|node| matches!(node.kind, 0 | 7) && node.argument == leaf);
+    let mut moduli: Vec<u64> = named.map(|node| node.modulus()).collect();
+    moduli.dedup();
+    (moduli.len() == 1 && moduli[0] > 0).then(|| moduli[0])
 }
 
 // ---- Faults
@@ -260,29 +295,56 @@ fn damage_leaf(docket: &mut Docket, random: &mut Random) {
     }
     let at = random.below(docket.leaves.len());
     let state = random.below(docket.states.len());
+    // Another fault may have made the modulus as great as 64 bits allow.
+    let modulus = only_modulus(docket, at).unwrap_or(2).min(1000) as i64;
     let leaf = &mut docket.leaves[at];
     let weights = if random.chance(1, 2) {
         &mut leaf.y1
     } else {
         &mut leaf.y2
     };
-    weights[state] = *random.pick(&[-32_768, -10_001, -10_000, -1, 0, 1, 2, 10_000, 10_001, 32_767]);
+    let old = weights[state];
+    weights[state] = match random.below(3) {
+        0 => old + random.pick(&[-1, 1, -modulus, modulus]),
+        _ => *random.pick(&[-32_768, -10_001, -10_000, -1, 0, 1, 2, 10_000, 10_001, 32_767]),
+    };
 }
 
-/// Drops, doubles, exchanges or adds nodes.
+/// Drops, doubles, exchanges or adds nodes, or takes facts from a subtree.
 fn damage_tree(docket: &mut Docket, random: &mut Random) {
     let count = docket.nodes.len();
     if count == 0 {
         return;
     }
     let (at, other) = (random.below(count), random.below(count));
-    match random.below(5) {
+    match random.below(7) {
         0 => drop(docket.nodes.remove(at)),
         1 => docket.nodes.insert(at, docket.nodes[other]),
         2 => docket.nodes.swap(at, other),
         3 => docket.nodes.push(docket.nodes[other]),
-        _ => wrap(docket, at, random),
+        4 => wrap(docket, at, random),
+        _ => lift(docket, at, random),
     }
+}
+
+/// Puts a child of a node, with all below it, in the node's place, so that it loses the facts that the node added.
+fn lift(docket: &mut Docket, at: usize, random: &mut Random) {
+    let end = after_subtree(docket, at);
+    let mut child = at + 1..end;
+    match children(docket, &docket.nodes[at]) {
+        0 => return,
+        1 => {}
+        _ => {
+            let middle = after_subtree(docket, at + 1);
+            child = if random.chance(1, 2) {
+                at + 1..middle
+            } else {
+                middle..end
+            };
+        }
+    }
+    let nodes = docket.nodes[child].to_vec();
+    docket.nodes.splice(at..end, nodes);
 }
 
 /// Makes the subtree at a place both children of a case on a state: where no fact harms, the docket stays accepted.
@@ -303,14 +365,32 @@ fn damage_node(docket: &mut Docket, random: &mut Random) {
         return;
     }
     let (states, rules, leaves) = (docket.states.len(), docket.rules.len(), docket.leaves.len());
-    let node = &mut docket.nodes[random.below(count)];
+    let remainders: Vec<usize> = (0..count).filter(|&at| docket.nodes[at].kind == 7).collect();
+    let at = if !remainders.is_empty() && random.chance(1, 3) {
+        *random.pick(&remainders)
+    } else {
+        random.below(count)
+    };
+    let node = &mut docket.nodes[at];
     match random.below(6) {
-        0 => node.kind = random.below(8) as u8,
+        0 => node.kind = random.below(9) as u8,
         1 => node.party = random.below(3),
         2 => node.party = *random.pick(&[0, 3, 255]),
         3 => node.argument = random.below(1 + states.max(rules).max(leaves)),
+        _ if node.kind == 7 => node.set = bits(other_modulus(node.modulus(), random)),
         4 => node.set[random.below(states)] ^= true,
         _ => node.set[random.below(64)] ^= true,
+    }
+}
+
+/// A modulus at a limit or past it, one of those of `digits`, one next to the old one, half of it or twice of it, or the
+/// old one with a bit more.
+fn other_modulus(old: u64, random: &mut Random) -> u64 {
+    match random.below(4) {
+        0 => *random.pick(&[0, 1, 2, 999, 1000, 1001, u64::MAX]),
+        1 => *random.pick(&[2, 3, 7, 1000]),
+        2 => *random.pick(&[old.wrapping_sub(1), old.wrapping_add(1), old / 2, old.wrapping_mul(2)]),
+        _ => old | 1 << random.below(64),
     }
 }
 
@@ -365,7 +445,8 @@ pub fn noise(random: &mut Random) -> Vec<u8> {
 #[cfg(test)]
 mod tests {
     use super::*;
-    use crate::{make, prover};
+    use crate::make::{self, remainder};
+    use crate::prover;
     use std::collections::BTreeSet;
 
     #[test]
@@ -378,8 +459,13 @@ mod tests {
             make::deep(40),
             make::two_outcomes(),
             make::outcomes(10, 40, 4),
+            make::layered(8, 10, 3, 30, 3),
+            remainder::parity(),
+            remainder::table(7, 2, &[1, 5]),
+            remainder::digits(1000, [391, 24]),
+            remainder::many_leaves(),
+            remainder::largest(1, 10_000),
         ];
-        dockets.push(make::layered(8, 10, 3, 30, 3));
         dockets.extend((0..40).filter_map(|_| prover::prove(make::majority(), &mut random)));
         assert!(dockets.len() > 5, "no tree was found for majority");
         for docket in &dockets {
@@ -404,6 +490,66 @@ mod tests {
             }
         }
         assert_eq!(met.len(), 8, "{met:?}");
+    }
+
+    /// Moduli are multiplied up to the limit, and the weights of their leaves come near both limits.
+    #[test]
+    fn remainders_are_changed() {
+        let mut random = Random::new(7);
+        let (mut moduli, mut weights) = (BTreeSet::new(), BTreeSet::new());
+        for _ in 0..1000 {
+            let mut docket = remainder::table(2, 0, &[0, 1]);
+            change_remainders(&mut docket, &mut random);
+            moduli.extend(docket.nodes.iter().filter(|node| node.kind == 7).map(Node::modulus));
+            weights.extend([docket.leaves[0].y1.clone(), docket.leaves[0].y2.clone()].concat());
+        }
+        assert!(
+            moduli.iter().all(|m| m % 2 == 0 && (2..=1000).contains(m)),
+            "{moduli:?}"
+        );
+        assert!(moduli.contains(&1000) && moduli.len() > 300, "{moduli:?}");
+        let (least, greatest) = (weights.first(), weights.last());
+        assert!(least >= Some(&-10_000) && least < Some(&-9_950), "{least:?}");
+        assert!(greatest <= Some(&10_000) && greatest > Some(&9_950), "{greatest:?}");
+    }
+
+    /// Damage to the digits leads to each of the answers that a node of kind 7 can give.
+    #[test]
+    fn remainders_are_damaged() {
+        let mut random = Random::new(8);
+        let docket = remainder::digits(7, [5, 3]);
+        let place = docket.nodes.iter().position(|node| node.kind == 7).unwrap_or(0);
+        let lines: Vec<String> = (0..4000)
+            .map(|_| second::line(&damaged(&docket, &mut random)))
+            .collect();
+        for line in [
+            "accepted".into(),
+            format!("refused 12 {place}"),
+            format!("refused 13 {place}"),
+        ] {
+            let count = lines.iter().filter(|other| other.starts_with(&line)).count();
+            assert!(count > 100, "{line}: {count}");
+        }
+    }
+
+    /// A modulus of any size leads to weights of 16 bits, or at most 1,000 past them.
+    #[test]
+    fn weights_after_other_faults() {
+        let mut random = Random::new(9);
+        for modulus in [0, 1, 1001, 1 << 32, 1 << 63, u64::MAX] {
+            let mut docket = remainder::parity();
+            docket.nodes[12].set = bits(modulus);
+            for _ in 0..200 {
+                let mut other = docket.clone();
+                damage_leaf(&mut other, &mut random);
+                let Leaf { y1, y2 } = &other.leaves[0];
+                let mut weights = y1.iter().chain(y2);
+                assert!(
+                    weights.all(|y| (-33_768..=33_767).contains(y)),
+                    "{modulus}: {y1:?} {y2:?}"
+                );
+            }
+        }
     }
 
     #[test]

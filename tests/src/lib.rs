@@ -7,5 +7,6 @@ pub mod native;
 pub mod outcomes;
 pub mod prover;
 pub mod random;
+pub mod remainders;
 pub mod samples;
 pub mod tally;

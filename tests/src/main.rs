@@ -11,9 +11,10 @@ use std::io::Write;
 use std::path::{Path, PathBuf};
 use std::process::{Command, Stdio};
 use tests::calls::{self, check_code, Call, UNTOUCHED};
+use tests::make::remainder;
 use tests::random::Random;
 use tests::tally::Tally;
-use tests::{damage, make, native, outcomes, prover, samples};
+use tests::{damage, make, native, outcomes, prover, remainders, samples};
 
 const THREADS: u64 = 2;
 const DOCKETS: u64 = 400_000;
@@ -81,7 +82,10 @@ fn report(tally: &Tally) {
         let shown: Vec<String> = places.iter().take(8).map(u32::to_string).collect();
         println!("refusal {number} at {} places: {} ..", places.len(), shown.join(" "));
     }
-    println!("nodes of kinds 0 to 6 in accepted dockets: {:?}", tally.kinds);
+    println!("nodes by refusal (0: accepted) and kind: {:?}", tally.kinds);
+    for (number, moduli) in &tally.moduli {
+        println!("{} moduli with refusal {number} (0: accepted)", moduli.len());
+    }
     println!(
         "several rules for a pair, dockets by refusal (0: accepted): {:?}; {} steps, {} runs",
         tally.outcomes, tally.outcome_steps, tally.outcome_runs
@@ -96,7 +100,13 @@ fn differences(tally: &Tally) -> Option<String> {
 // ---- Samples and corpus
 
 fn run_samples(results: &mut Results) {
-    for (name, docket, line) in [samples::published(), samples::edges(), outcomes::lines()].concat() {
+    let lines = [
+        samples::published(),
+        samples::edges(),
+        outcomes::lines(),
+        remainders::lines(),
+    ];
+    for (name, docket, line) in lines.concat() {
         results.expect(name, line_problem(&docket, line));
     }
     for sample in samples::calls().into_iter().chain(outcomes::calls()) {
@@ -170,7 +180,7 @@ fn unreadable_problem() -> Option<String> {
 }
 
 /// The least number of dockets in the corpus, so that it is seen where some are gone.
-const CORPUS: usize = 58;
+const CORPUS: usize = 73;
 
 /// Runs the corpus; hands back its accepted dockets.
 fn run_corpus(results: &mut Results) -> Vec<Docket> {
@@ -209,6 +219,7 @@ impl Pool {
         let mut all = corpus;
         all.extend(families(&mut random));
         all.extend((0..40).filter_map(|_| prover::prove(make::majority(), &mut random)));
+        all.extend((0..300).filter_map(|_| prover::near_parity(&mut random)));
         all.extend(
             (0..10_000)
                 .filter_map(|_| prover::random_docket(&mut random))
@@ -262,6 +273,29 @@ fn families(random: &mut Random) -> Vec<Docket> {
         all.push(make::layered(2 + layers, rules, layers, nodes, layers));
         all.push(make::outcomes(9 + layers, 16 * layers, layers));
     }
+    all.extend(remainder_families(random));
+    all
+}
+
+/// The families with nodes of kind 7, with random inputs, remainders and ends; only accepted dockets.
+fn remainder_families(random: &mut Random) -> Vec<Docket> {
+    let mut all = vec![
+        remainder::parity(),
+        remainder::many_leaves(),
+        remainder::largest(1, 10_000),
+        remainder::largest(2, -10_000),
+    ];
+    for m in 2..=18 {
+        for _ in 0..4 {
+            let inputs: Vec<usize> = (0..1 + random.below(3)).map(|_| random.below(m)).collect();
+            all.push(remainder::table(m, random.below(m), &inputs));
+        }
+    }
+    for m in [2_u64, 3, 7, 1000].repeat(20) {
+        let ends = [0; 2].map(|_| random.word() % m.next_power_of_two());
+        all.push(remainder::digits(m, ends));
+    }
+    all.retain(|docket| second::check(&docket.bytes()).is_ok());
     all
 }
 

@@ -1,5 +1,7 @@
 //! Families of accepted dockets.
 
+pub mod remainder;
+
 use second::{Docket, Leaf, Node, Rule, State};
 
 /// A node with no set.
@@ -21,6 +23,19 @@ pub fn set_node(kind: u8, party: usize, states: std::ops::Range<usize>) -> Node 
         argument: 0,
         set,
     }
+}
+
+/// A node of kind 7.
+pub fn remainder_node(leaf: usize, modulus: u64) -> Node {
+    Node {
+        set: bits(modulus),
+        ..node(7, 0, leaf)
+    }
+}
+
+/// A set field with this number.
+pub fn bits(number: u64) -> [bool; 64] {
+    std::array::from_fn(|bit| number >> bit & 1 == 1)
 }
 
 pub fn rule(before: [usize; 2], after: [usize; 2], layer: usize) -> Rule {
@@ -218,14 +233,19 @@ fn layer_from_top(r: usize, rules: usize, layers: usize) -> usize {
 /// turn.
 fn unreached(states: usize, rules: Vec<Rule>, nodes: usize, leaves: usize) -> Docket {
     let layers = 1 + rules.iter().map(|rule| rule.layer).max().unwrap_or(0);
-    let weight = |i: usize| (i * 1_000_000 / (states - 1)) as i64;
     Docket {
         states: (0..states).map(|i| state(u8::from(i > 0), i == 0)).collect(),
         rules,
-        weights: vec![(0..states).map(weight).collect(); layers],
+        weights: rising_weights(states, layers),
         nodes: split(nodes, 12, 0, &|n, place| leaf_argument(states, n, place % leaves)),
         leaves: (0..leaves).map(|l| one_state_leaf(states, 10_000 - l as i64)).collect(),
     }
+}
+
+/// In every layer weights that rise with the number of the state, from 0 to 1,000,000.
+fn rising_weights(states: usize, layers: usize) -> Vec<Vec<i64>> {
+    let weight = |i: usize| (i * 1_000_000 / (states - 1)) as i64;
+    vec![(0..states).map(weight).collect(); layers]
 }
 
 /// State 0 present at end 1 and absent at end 2 is refuted by a leaf, all else by kind 1; in n nodes, 6 or more.

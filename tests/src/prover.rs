@@ -1,13 +1,16 @@
 //! Random small protocols with certificates: weights come first and rules are chosen to lower them; a tree of arguments
-//! is searched for by traps, siphons, leaves with weights -1 to 1, and cases.
+//! is searched for by traps, siphons, leaves with weights -1 to 1, remainders with small moduli, and cases.
 
-use crate::make::{node, rule};
+use crate::make::{node, remainder, remainder_node, rule};
 use crate::random::Random;
 use second::{Docket, Leaf, Node, State};
 
 /// The most nodes that a search may use, and the most states for which leaves are tried.
 const MOST_NODES: usize = 300;
 const MOST_LEAF_STATES: usize = 4;
+
+/// The moduli that are tried.
+const MODULI: [i64; 3] = [2, 3, 4];
 
 /// Sets of states as words; of rules too, so there are at most 64 of them.
 #[derive(Clone, Copy, Default)]
@@ -49,6 +52,29 @@ fn random_protocol(random: &mut Random) -> Option<Docket> {
     docket.nodes.push(node(1, 1, 0));
     let bytes = docket.bytes();
     (second::parse(&bytes).is_ok() && second::handover(&bytes).is_ok()).then_some(docket)
+}
+
+/// An accepted docket of a random protocol near one that counts modulo 2; none where this try fails.
+pub fn near_parity(random: &mut Random) -> Option<Docket> {
+    let mut docket = match random.below(2) {
+        0 => remainder::parity(),
+        _ => remainder::table(2, random.below(2), &[1]),
+    };
+    for _ in 0..random.below(4) {
+        change_protocol(&mut docket, random);
+    }
+    prove(docket, random)
+}
+
+/// Drops or adds a rule, or changes the verdict of a state or whether it is an input.
+fn change_protocol(docket: &mut Docket, random: &mut Random) {
+    let state = random.below(docket.states.len());
+    match random.below(4) {
+        0 => drop(docket.rules.remove(random.below(docket.rules.len()))),
+        1 => add_rule(docket, random),
+        2 => docket.states[state].input ^= true,
+        _ => docket.states[state].verdict ^= 1,
+    }
 }
 
 /// Adds a random rule where no rule has its four states and its layer's weights fall.
@@ -94,6 +120,20 @@ struct Search<'a> {
     random: &'a mut Random,
 }
 
+/// The weights for one end, and their part of a sum over both.
+type Side = (Vec<i64>, i64);
+
+/// The first weights for both ends that fit; `fits` is given them and their sum.
+fn first_leaf(sides: &[Vec<Side>; 2], fits: impl Fn(&[i64], &[i64], i64) -> bool) -> Option<Leaf> {
+    let [first, second] = sides;
+    let mut pairs = first
+        .iter()
+        .flat_map(|one| second.iter().map(move |other| (one, other)));
+    let ((y1, _), (y2, _)) = pairs.find(|((y1, sum1), (y2, sum2))| fits(y1, y2, sum1 + sum2))?;
+    let (y1, y2) = (y1.clone(), y2.clone());
+    Some(Leaf { y1, y2 })
+}
+
 impl Search<'_> {
     /// Adds the nodes that refute the facts; none where the search fails.
     fn close(&mut self, facts: Facts, depth: usize) -> Option<()> {
@@ -108,13 +148,10 @@ impl Search<'_> {
             self.docket.nodes.push(node);
             return self.close(child, depth + 1);
         }
-        if let Some(leaf) = self.leaf(&facts) {
-            let known = self.docket.leaves.iter().position(|l| *l == leaf);
-            let at = known.unwrap_or(self.docket.leaves.len());
-            if known.is_none() {
-                self.docket.leaves.push(leaf);
-            }
-            self.docket.nodes.push(node(0, 0, at));
+        if let Some((leaf, modulus)) = self.any_leaf(&facts) {
+            let at = self.leaf_place(leaf);
+            let closed = modulus.map_or(node(0, 0, at), |m| remainder_node(at, m as u64));
+            self.docket.nodes.push(closed);
             return Some(());
         }
         let (node, children) = self.cases(&facts)?;
@@ -166,51 +203,97 @@ impl Search<'_> {
         ))
     }
 
-    /// A leaf with weights -1 to 1 that closes.
-    fn leaf(&self, facts: &Facts) -> Option<Leaf> {
+    /// The place of a leaf, which is added where it is new.
+    fn leaf_place(&mut self, leaf: Leaf) -> usize {
+        let known = self.docket.leaves.iter().position(|l| *l == leaf);
+        let at = known.unwrap_or(self.docket.leaves.len());
+        if known.is_none() {
+            self.docket.leaves.push(leaf);
+        }
+        at
+    }
+
+    /// A leaf that closes by the leaf rule, or one that closes by the remainder rule, with its modulus.
+    fn any_leaf(&mut self, facts: &Facts) -> Option<(Leaf, Option<i64>)> {
         if self.docket.states.len() > MOST_LEAF_STATES {
             return None;
         }
-        let first = self.leaf_sides(facts, 1);
-        let second = self.leaf_sides(facts, 2);
-        for (y1, lower1) in &first {
-            for (y2, lower2) in &second {
-                if self
-                    .upper_sum(facts, y1, y2)
-                    .is_some_and(|upper| lower1 + lower2 > upper)
-                {
-                    return Some(Leaf {
-                        y1: y1.clone(),
-                        y2: y2.clone(),
-                    });
-                }
-            }
+        let m = *self.random.pick(&MODULI);
+        let remainder = |search: &Self| search.remainder(facts, m).map(|leaf| (leaf, Some(m)));
+        let leaf = |search: &Self| search.leaf(facts).map(|leaf| (leaf, None));
+        if self.random.chance(1, 2) {
+            remainder(self).or_else(|| leaf(self))
+        } else {
+            leaf(self).or_else(|| remainder(self))
         }
-        None
+    }
+
+    /// A leaf with weights -1 to 1 that closes by the leaf rule.
+    fn leaf(&self, facts: &Facts) -> Option<Leaf> {
+        let sides = [1, 2].map(|party| self.leaf_sides(facts, party));
+        first_leaf(&sides, |y1, y2, lower| {
+            self.upper_sum(facts, y1, y2).is_some_and(|upper| lower > upper)
+        })
+    }
+
+    /// A leaf that closes by the remainder rule.
+    fn remainder(&self, facts: &Facts, m: i64) -> Option<Leaf> {
+        let exactly_one = |party: usize| facts.present[party] & facts.at_most_one[party] & !facts.absent[party];
+        if exactly_one(1) | exactly_one(2) == 0 {
+            return None;
+        }
+        let sides = [1, 2].map(|party| self.remainder_sides(facts, party, exactly_one(party), m));
+        let start: Vec<usize> = self.not_absent(facts, 0).collect();
+        first_leaf(&sides, |y1, y2, sum| {
+            sum % m != 0 && start.iter().all(|&i| (y1[i] + y2[i]) % m == 0)
+        })
     }
 
     /// The weights for one end that the rules and the end allow, with their part of the lower sum.
-    fn leaf_sides(&self, facts: &Facts, party: usize) -> Vec<(Vec<i64>, i64)> {
-        let count = self.docket.states.len();
+    fn leaf_sides(&self, facts: &Facts, party: usize) -> Vec<Side> {
+        let is_at = |set: u64, i: usize| set >> i & 1 == 1;
         let mut sides = vec![];
-        for number in 0..3_i64.pow(count as u32) {
-            let y: Vec<i64> = (0..count).map(|i| number / 3_i64.pow(i as u32) % 3 - 1).collect();
-            let weight = |pair: [usize; 2]| y[pair[0]] + y[pair[1]];
-            let mut rules = self.docket.rules.iter().enumerate();
-            if !rules.all(|(r, rule)| facts.unused[party] >> r & 1 == 1 || weight(rule.after) <= weight(rule.before)) {
-                continue;
-            }
-            let here: Vec<usize> = (0..count).filter(|&i| facts.absent[party] >> i & 1 == 0).collect();
-            if here
-                .iter()
-                .all(|&i| y[i] >= 0 || facts.at_most_one[party] >> i & 1 == 1)
-            {
-                let joins = |i: &&usize| y[**i] < 0 || facts.present[party] >> **i & 1 == 1;
-                let lower = here.iter().filter(joins).map(|&i| y[i]).sum();
+        for y in self.kept(facts, party, 3, |raised| raised <= 0) {
+            let fits = |i: usize| y[i] >= 0 || is_at(facts.at_most_one[party], i);
+            if self.not_absent(facts, party).all(fits) {
+                let joins = |i: &usize| y[*i] < 0 || is_at(facts.present[party], *i);
+                let lower = self.not_absent(facts, party).filter(joins).map(|i| y[i]).sum();
                 sides.push((y, lower));
             }
         }
         sides
+    }
+
+    /// The weights for one end that the rules and the end allow modulo m, with their part of the sum.
+    fn remainder_sides(&self, facts: &Facts, party: usize, exactly_one: u64, m: i64) -> Vec<Side> {
+        let joins = |i: &usize| exactly_one >> i & 1 == 1;
+        let mut sides = vec![];
+        for y in self.kept(facts, party, m, |raised| raised % m == 0) {
+            if self.not_absent(facts, party).all(|i| joins(&i) || y[i] % m == 0) {
+                let sum = self.not_absent(facts, party).filter(joins).map(|i| y[i]).sum();
+                sides.push((y, sum));
+            }
+        }
+        sides
+    }
+
+    fn not_absent(&self, facts: &Facts, party: usize) -> impl Iterator<Item = usize> {
+        let absent = facts.absent[party];
+        (0..self.docket.states.len()).filter(move |i| absent >> i & 1 == 0)
+    }
+
+    /// The weights, `range` numbers around 0 for each state, by which every rule not unused raises by what is allowed.
+    fn kept(&self, facts: &Facts, party: usize, range: i64, allowed: impl Fn(i64) -> bool) -> Vec<Vec<i64>> {
+        let count = self.docket.states.len() as u32;
+        let weights = |number: i64| (0..count).map(move |i| number / range.pow(i) % range - range / 2);
+        let all = (0..range.pow(count)).map(|number| weights(number).collect());
+        let is_kept = |y: &Vec<i64>| {
+            let weight = |pair: [usize; 2]| y[pair[0]] + y[pair[1]];
+            let mut rules = self.docket.rules.iter().enumerate();
+            rules
+                .all(|(r, rule)| facts.unused[party] >> r & 1 == 1 || allowed(weight(rule.after) - weight(rule.before)))
+        };
+        all.filter(is_kept).collect()
     }
 
     fn upper_sum(&self, facts: &Facts, y1: &[i64], y2: &[i64]) -> Option<i64> {
@@ -270,6 +353,7 @@ impl Search<'_> {
 mod tests {
     use super::*;
     use second::Rule;
+    use std::collections::BTreeSet;
 
     /// Pairs with several rules are found in one layer and in two.
     #[test]
@@ -282,5 +366,23 @@ mod tests {
             let count = dockets.iter().filter(found).count();
             assert!(20 * count > dockets.len(), "{count} of {}", dockets.len());
         }
+    }
+
+    /// Trees of tables that count modulo 2, and of protocols near them, are closed by remainders.
+    #[test]
+    fn remainders_close_trees() {
+        let mut random = Random::new(9);
+        let has_remainder = |docket: &Docket| docket.nodes.iter().any(|node| node.kind == 7);
+        for table in [remainder::parity(), remainder::table(2, 1, &[1])] {
+            let found: Vec<Docket> = (0..100).filter_map(|_| prove(table.clone(), &mut random)).collect();
+            assert!(found.len() > 50, "{} of 100", found.len());
+            assert!(found.iter().all(has_remainder));
+        }
+        let near = (0..1000).filter_map(|_| near_parity(&mut random));
+        let protocols: BTreeSet<String> = near
+            .filter(has_remainder)
+            .map(|docket| format!("{:?} {:?}", docket.states, docket.rules))
+            .collect();
+        assert!(protocols.len() > 10, "{protocols:?}");
     }
 }

@@ -14,8 +14,11 @@ pub struct Tally {
     pub lines: u64,
     /// The places met with each refusal's number.
     pub places: BTreeMap<u32, BTreeSet<u32>>,
-    /// Nodes of each kind in accepted dockets.
-    pub kinds: [u64; 7],
+    /// Nodes by the number of the refusal that they got, 0 for all nodes of accepted dockets, and by their kind, 8 for
+    /// every unknown one.
+    pub kinds: BTreeMap<(u32, u8), u64>,
+    /// The moduli of the nodes of kind 7 among them, by the same number.
+    pub moduli: BTreeMap<u32, BTreeSet<u64>>,
     /// Dockets in which a pair has several rules, by the number of their refusal, 8 or more; 0 for accepted ones.
     pub outcomes: BTreeMap<u32, u64>,
     /// Steps by one of several rules of a pair.
@@ -37,11 +40,26 @@ impl Tally {
         }
         if number > 0 {
             self.count_refusal(Refusal { number, place });
-            return;
+        } else {
+            self.accepted += 1;
         }
-        self.accepted += 1;
-        for node in second::parse(docket).map_or(vec![], |parsed| parsed.nodes) {
-            self.kinds[usize::from(node.kind)] += 1;
+        if matches!(number, 0 | 12 | 13) {
+            self.count_nodes(docket, number, place as usize);
+        }
+    }
+
+    /// Counts all nodes of an accepted docket, or the one that is refused.
+    fn count_nodes(&mut self, docket: &[u8], number: u32, place: usize) {
+        let nodes = second::parse(docket).map_or(vec![], |parsed| parsed.nodes);
+        let counted = match number {
+            0 => &nodes[..],
+            _ => nodes.get(place..=place).unwrap_or_default(),
+        };
+        for node in counted {
+            *self.kinds.entry((number, node.kind.min(8))).or_default() += 1;
+            if node.kind == 7 {
+                self.moduli.entry(number).or_default().insert(node.modulus());
+            }
         }
     }
 
@@ -81,8 +99,11 @@ impl Tally {
         for (number, places) in other.places {
             self.places.entry(number).or_default().extend(places);
         }
-        for (sum, more) in self.kinds.iter_mut().zip(other.kinds) {
-            *sum += more;
+        for (kind, more) in other.kinds {
+            *self.kinds.entry(kind).or_default() += more;
+        }
+        for (number, moduli) in other.moduli {
+            self.moduli.entry(number).or_default().extend(moduli);
         }
         for (number, more) in other.outcomes {
             *self.outcomes.entry(number).or_default() += more;
@@ -93,8 +114,8 @@ impl Tally {
     }
 
     /// What the inputs failed to reach: several places with every refusal that has them, some last places, every kind of
-    /// node, half of the dockets past tests 1 to 8, a tenth of them accepted, and tables in which a pair has several
-    /// rules.
+    /// node and some moduli, half of the dockets past tests 1 to 8, a tenth of them accepted, and tables in which a pair
+    /// has several rules.
     pub fn not_reached(&self) -> Vec<String> {
         let mut missing = vec![];
         for (number, least) in LEAST_PLACES {
@@ -108,18 +129,29 @@ impl Tally {
                 missing.push(format!("refusal {number} at place {place}"));
             }
         }
-        for (kind, &count) in self.kinds.iter().enumerate() {
-            if count == 0 {
-                missing.push(format!("no accepted docket with a node of kind {kind}"));
-            }
-        }
         if 2 * self.pass_shape < self.dockets {
             missing.push("fewer than half of the dockets pass tests 1 to 8".into());
         }
         if 10 * self.accepted < self.dockets {
             missing.push("fewer than a tenth of the dockets are accepted".into());
         }
+        missing.extend(self.nodes_not_reached());
         missing.extend(self.outcomes_not_reached());
+        missing
+    }
+
+    /// What the inputs failed to reach of the kinds of nodes and of the moduli, accepted and refused.
+    fn nodes_not_reached(&self) -> Vec<String> {
+        let mut missing = vec![];
+        for (number, kinds) in KINDS {
+            let unmet = kinds.iter().filter(|&&kind| !self.kinds.contains_key(&(number, kind)));
+            missing.extend(unmet.map(|kind| format!("refusal {number} (0: accepted): no node of kind {kind}")));
+        }
+        for (number, moduli) in MODULI {
+            let met = |modulus| self.moduli.get(&number).is_some_and(|met| met.contains(modulus));
+            let unmet = moduli.iter().filter(|modulus| !met(modulus));
+            missing.extend(unmet.map(|modulus| format!("refusal {number} (0: accepted): no modulus {modulus}")));
+        }
         missing
     }
 
@@ -160,6 +192,20 @@ fn before_pairs(docket: &[u8]) -> Vec<&[u8]> {
 
 /// How many inputs of each kind, other than accepted dockets, must have several rules for a pair.
 const LEAST_OUTCOMES: u64 = 200;
+
+/// Kinds of nodes that must be met in accepted dockets, with refusal 12, and with 13, where the kind has a ground.
+const KINDS: [(u32, &[u8]); 3] = [
+    (0, &[0, 1, 2, 3, 4, 5, 6, 7]),
+    (12, &[0, 1, 2, 3, 4, 5, 6, 7, 8]),
+    (13, &[0, 1, 2, 5, 6, 7]),
+];
+
+/// Moduli that must be met in accepted dockets, with refusal 12, some with a high bit, and with 13.
+const MODULI: [(u32, &[u64]); 3] = [
+    (0, &[2, 3, 7, 1000]),
+    (12, &[0, 1, 1001, 2 + (1 << 16), 2 + (1 << 32), 2 + (1 << 63), u64::MAX]),
+    (13, &[2, 3, 7, 1000]),
+];
 
 /// Places that must be met: the place behind the last state in test 5, the last layer, the last state, and the greatest
 /// rule number.

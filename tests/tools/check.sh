@@ -169,9 +169,10 @@ try tools/docket examples/*.docket
 holds 'the examples' printed 0 'examples/broadcast.docket: accepted 2 1 1 5 1 1
 examples/majority.docket: accepted 4 4 2 21 3 4
 examples/maximum_10.docket: accepted 10 45 1 127 9 9
+examples/parity.docket: accepted 4 5 3 18 3 4
 examples/threshold_1_0_8.docket: accepted 21 146 2 384 37 19
 examples/two_outcomes.docket: accepted 3 3 1 7 1 2
-5 files: 5 accepted, 0 refused, 0 trouble'
+6 files: 6 accepted, 0 refused, 0 trouble'
 
 files=(tests/corpus/*.docket)
 lines=$(for file in "${files[@]}"; do echo "$file: $(<"${file%.docket}.expect")"; done)

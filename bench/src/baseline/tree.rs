@@ -2,8 +2,10 @@
 
 use super::docket::{Docket, Rule};
 use super::{refuse, Refusal};
+use std::ops::RangeInclusive;
 
 const DEPTH: usize = 40;
+const MODULI: RangeInclusive<u64> = 2..=1000;
 
 /// Test 11.
 pub fn leaf_limits(docket: &Docket) -> Result<(), Refusal> {
@@ -14,12 +16,12 @@ pub fn leaf_limits(docket: &Docket) -> Result<(), Refusal> {
     }
 }
 
-/// How many states the widest set of the tree names.
+/// How many states the widest set of the tree names, which is that of a node of kind 5 or 6.
 pub fn widest(docket: &Docket) -> u32 {
-    docket
-        .nodes
-        .iter()
-        .map(|record| Node::read(record).set.count_ones())
+    let nodes = docket.nodes.iter().map(Node::read);
+    nodes
+        .filter(|node| node.kind == 5 || node.kind == 6)
+        .map(|node| node.set.count_ones())
         .max()
         .unwrap_or(0)
 }
@@ -55,6 +57,23 @@ impl Node {
             argument,
             set: u64::from_le_bytes(set),
         }
+    }
+}
+
+/// The weights of a leaf for end 1 and for end 2.
+struct Leaf<'a> {
+    ends: [&'a [[u8; 2]]; 2],
+}
+
+impl Leaf<'_> {
+    fn y(&self, end: usize, state: usize) -> i32 {
+        i32::from(i16::from_le_bytes(self.ends[end - 1][state]))
+    }
+
+    /// What a rule adds to the weights of its run.
+    fn added(&self, run: usize, &[p, q, a, b, _]: &Rule) -> i32 {
+        let y = |state: u8| self.y(run, usize::from(state));
+        y(a) + y(b) - y(p) - y(q)
     }
 }
 
@@ -110,14 +129,14 @@ impl Tree<'_> {
 
     fn fields_fit(&self, node: &Node) -> bool {
         let run = node.party == 1 || node.party == 2;
-        let set = if node.kind < 5 {
-            node.set == 0
-        } else {
-            node.set != 0 && node.set & !self.states == 0
+        let set = match node.kind {
+            0..5 => node.set == 0,
+            7 => MODULI.contains(&node.set),
+            _ => node.set != 0 && node.set & !self.states == 0,
         };
         let leaves = self.docket.leaf_weights.len() / (2 * self.docket.states.len());
         set && match node.kind {
-            0 => node.party == 0 && node.argument < leaves,
+            0 | 7 => node.party == 0 && node.argument < leaves,
             1 | 5 | 6 => run && node.argument == 0,
             2 | 4 => node.party <= 2 && node.argument < self.docket.states.len(),
             3 => run && node.argument < self.docket.rules.len(),
@@ -127,11 +146,12 @@ impl Tree<'_> {
 
     fn ground_holds(&self, node: &Node, facts: &Facts) -> bool {
         match node.kind {
-            0 => self.leaf_closes(node.argument, facts),
+            0 => self.leaf_closes(&self.leaf(node.argument), facts),
             1 => self.verdicts[node.party - 1] & !facts.absent[node.party] == 0,
             2 => (facts.present[node.party] & facts.absent[node.party]) >> node.argument & 1 == 1,
             5 => node.set & !facts.absent[node.party] == 0 && self.is_trap(node, facts),
             6 => node.set & !facts.absent[0] == 0 && self.is_trap(node, facts),
+            7 => self.remainder_closes(&self.leaf(node.argument), node.set as i32, facts),
             _ => true,
         }
     }
@@ -175,29 +195,36 @@ impl Tree<'_> {
         }
     }
 
-    /// The leaf rule.
-    fn leaf_closes(&self, leaf: usize, facts: &Facts) -> bool {
+    fn leaf(&self, leaf: usize) -> Leaf<'_> {
         let states = self.docket.states.len();
         let weights = &self.docket.leaf_weights[2 * leaf * states..][..2 * states];
-        let y = |run: usize, state: usize| i64::from(i16::from_le_bytes(weights[(run - 1) * states + state]));
-        let pair = |run: usize, a: u8, b: u8| y(run, a.into()) + y(run, b.into());
-        let raises = |run: usize, &[p, q, a, b, _]: &Rule| pair(run, a, b) > pair(run, p, q);
+        let (first, second) = weights.split_at(states);
+        Leaf { ends: [first, second] }
+    }
+
+    /// Whether what each used rule adds to the weights of its run is allowed.
+    fn rules_allow(&self, leaf: &Leaf, facts: &Facts, allowed: impl Fn(i32) -> bool) -> bool {
         let mut rules = self.docket.rules.iter().enumerate();
-        if rules.any(|(r, rule)| (1..3).any(|run| !facts.is_unused(run, r) && raises(run, rule))) {
+        rules.all(|(r, rule)| (1..3).all(|run| facts.is_unused(run, r) || allowed(leaf.added(run, rule))))
+    }
+
+    /// The leaf rule.
+    fn leaf_closes(&self, leaf: &Leaf, facts: &Facts) -> bool {
+        if !self.rules_allow(leaf, facts, |added| added <= 0) {
             return false;
         }
         let (mut lower, mut upper) = (0, 0);
-        for state in 0..states {
+        for state in 0..self.docket.states.len() {
             let has = |set: u64| set >> state & 1 == 1;
             if !has(facts.absent[0]) {
-                let sum = y(1, state) + y(2, state);
+                let sum = leaf.y(1, state) + leaf.y(2, state);
                 if sum > 0 {
                     return false;
                 }
                 upper += if has(facts.present[0]) { sum } else { 0 };
             }
             for end in 1..3 {
-                let weight = y(end, state);
+                let weight = leaf.y(end, state);
                 if has(facts.absent[end]) {
                     continue;
                 }
@@ -212,5 +239,31 @@ impl Tree<'_> {
             }
         }
         lower > upper
+    }
+
+    /// The remainder rule.
+    fn remainder_closes(&self, leaf: &Leaf, modulus: i32, facts: &Facts) -> bool {
+        if !self.rules_allow(leaf, facts, |added| added % modulus == 0) {
+            return false;
+        }
+        let mut sum = 0;
+        for state in 0..self.docket.states.len() {
+            let has = |set: u64| set >> state & 1 == 1;
+            if !has(facts.absent[0]) && (leaf.y(1, state) + leaf.y(2, state)) % modulus != 0 {
+                return false;
+            }
+            for end in 1..3 {
+                let weight = leaf.y(end, state);
+                if has(facts.absent[end]) {
+                    continue;
+                }
+                if has(facts.present[end] & facts.at_most_one[end]) {
+                    sum += weight;
+                } else if weight % modulus != 0 {
+                    return false;
+                }
+            }
+        }
+        sum % modulus != 0
     }
 }

@@ -1,5 +1,5 @@
--- What is proved of every docket: its bytes b, and counts c lent with it. Statements only, to be laid beside document 01;
--- the record Claims at the end says what is proved, and Claims/ proves it.
+-- What is proved of every docket: its bytes b, and counts c lent with it. Statements only, to be laid beside document 01, and
+-- beside document 02 for what its Jobs changed; the record Claims at the end says what is proved, and Claims/ proves it.
 -- The protocol of a docket with header h is protocolIn b h, its layers are layersIn b h, their weights weightIn b h. What is
 -- said of lists of rule numbers and of calls is stated in theory's Claims, over what the machine says of the bytes here.
 use mathlib.Core.Path.{_≡_}
@@ -16,6 +16,7 @@ use Rattle.theory.specs.Protocol.{Protocol, count, enabled, terminal, Shows, St
 use Rattle.theory.specs.Ladder.{Layers, handover, Broken, layered, Laddered}
 use Rattle.theory.specs.Facts.{Facts}
 use Rattle.theory.specs.Leaf.{leafCloses, signed, LeafRule}
+use Rattle.theory.specs.Remainder.{remainderCloses, RemainderRule}
 use Rattle.theory.specs.Tree.{Tree, Assumption, disagreement}
 use Rattle.theory.specs.Subtree.{TreeStands, TreeFails}
 use Rattle.theory.specs.Machine.{Call, step, run, Reply, stepped, ran, refused, meetingsOf, isSized, isWithin, admitted}
@@ -113,7 +114,8 @@ module _ (b : List ℕ) (h : Header) where
   abbrev pub assumed : Assumption
   assumed = disagreement (protocolIn b h) (weightsOf (h .sizes) (sectionsOf b h .leaves))
 
-  -- The bytes b, with header h, keep every rule of document 01.
+  -- The bytes b, with header h, keep every rule of document 01, as the Jobs of document 02 that are landed have it: rules are
+  -- distinct in all four states (Job 1), and a tree may have nodes of kind 7 (Job 2).
   pub record Rules : Type 0 where
     -- Tests 1 to 8.
     pub shape : SoundShape b h
@@ -262,3 +264,6 @@ pub record Claims (b : List ℕ) : Type 0 where
   -- The leaf rule of kind 0 is document 01's, in the signed weights of leaf l.
   pub leaf-rule : (h : Header) (F : Facts) (l : ℕ) → let w = weightsOf (h .sizes) (sectionsOf b h .leaves) l in
       (leafCloses (protocolIn b h) F w ≡ true) ↔ LeafRule (protocolIn b h) F (λ k s. signed (w k s))
+  -- The remainder rule of kind 7 is document 02's, in the signed weights of leaf l and the modulus m.
+  pub remainder-rule : (h : Header) (F : Facts) (m l : ℕ) → let w = weightsOf (h .sizes) (sectionsOf b h .leaves) l in
+      (remainderCloses (protocolIn b h) m F w ≡ true) ↔ RemainderRule (protocolIn b h) F (λ k s. signed (w k s)) m

@@ -10,7 +10,7 @@ use Rattle.theory.specs.Machine.{run, ran}
 use Rattle.shape.specs.Shape.{refusal}
 use Rattle.theory.specs.Unfold.{walking, calling}
 use Rattle.format.specs.Format.{headerOf}
-use Rattle.format.specs.Samples.{broadcast, majority, twoOutcomes}
+use Rattle.format.specs.Samples.{broadcast, majority, twoOutcomes, parity}
 use Rattle.shape.specs.Samples.{shaping}
 use Rattle.leaf.specs.Leaf.{badLeaf}
 use Rattle.checker.specs.Check.{sectionsCheck, checkOf}
@@ -64,11 +64,19 @@ samples =
     ∷ says withoutAbsent (Refused (refusal 13 9))  -- P12
     ∷ []
 
--- Samples of document 02. Job 1: a pair with two outcomes, and the same with rule 1 equal to rule 0.
+-- Samples of document 02. Job 1: a pair with two outcomes, and the same with rule 1 equal to rule 0. Job 2: parity; then with
+-- the moduli 3, 1, 1,001 (3 × 256 + 233) and 2 + 2^32 at node 12; and with argument 2 at node 7, where O is not known to hold
+-- exactly one agent.
 abbrev pub requested : List Sample
 requested =
     says twoOutcomes (Accepted (record { states = 3; rules = 3; layers = 1; nodes = 7; spreads = 1; widest = 2 }))  -- Job 1
     ∷ says (set twoOutcomes 35 1) (Refused (refusal 7 1))  -- Job 1
+    ∷ says parity (Accepted (record { states = 4; rules = 5; layers = 3; nodes = 18; spreads = 3; widest = 4 }))  -- Job 2
+    ∷ says (set parity 249 3) (Refused (refusal 13 12))  -- Job 2
+    ∷ says (set parity 249 1) (Refused (refusal 12 12))  -- Job 2
+    ∷ says (set (set parity 249 233) 250 3) (Refused (refusal 12 12))  -- Job 2
+    ∷ says (set parity 253 1) (Refused (refusal 12 12))  -- Job 2
+    ∷ says (set parity 187 2) (Refused (refusal 13 12))  -- Job 2
     ∷ []
 
 -- The names that samples unfold.
@@ -82,8 +90,12 @@ samples-hold = (refl, (refl, (refl, (refl, (refl, (refl, (refl, ((refl, refl, re
 
 pub requested-hold : AllHold requested
 unfolding sampling
-requested-hold = (refl, (refl, tt))
+requested-hold = (refl, (refl, (refl, (refl, (refl, (refl, (refl, (refl, tt))))))))
 
 -- So demand 3 holds of a docket in which a pair has two outcomes: what it says of rest and verdict is not empty there.
 pub outcomes-settle : (c : List ℕ) → Demand3 twoOutcomes (headerOf twoOutcomes) c
 outcomes-settle = claims twoOutcomes .demand-3 (_, requested-hold .0)
+
+-- And of a docket whose tree has a node of kind 7.
+pub parity-settles : (c : List ℕ) → Demand3 parity (headerOf parity) c
+parity-settles = claims parity .demand-3 (_, requested-hold .1 .1 .0)

@@ -1,16 +1,19 @@
--- The leaf rule of document 01 over the bytes of a docket, in the parts in which the code goes through it.
+-- The leaf rule and the remainder rule over the bytes of a docket, in the parts in which the code goes through them.
 use mathlib.Core.Path.{_≡_}
-use mathlib.Core.Bool.{Bool, not, _&&_, _||_}
+use mathlib.Core.Bool.{Bool, not, cond, _||_}
 use mathlib.Core.List.{List}
-use Prim.Native.Nat.{ℕ, _+_, _-_, _*_, _≤_, _<_}
-use lib.Dec.{leb}
-use Rattle.theory.specs.Bool.{member, bit}
-use Rattle.theory.specs.Facts.{Facts}
+use Prim.Native.Nat.{ℕ, _+_, _-_, _%_, _<_}
+use lib.Dec.{ltb, eqb}
+use Rattle.theory.specs.Bool.{member}
+use Rattle.theory.specs.Below.{allBelow, firstBelow}
 use Rattle.format.specs.Format.{ruleP, ruleQ, ruleP′, ruleQ′, ruleOf, endWeight}
 use Rattle.format.specs.declared.Rule.{Rule}
 use Rattle.format.specs.declared.Sizes.{Sizes}
-use Rattle.leaf.specs.declared.Known.{Known}
-use Rattle.leaf.specs.declared.Share.{Share}
+use Rattle.share.specs.Code.{relatesBy, shareBy}
+use Rattle.share.specs.declared.Closing.{Closing}
+use Rattle.share.specs.declared.Known.{Known}
+use Rattle.share.specs.declared.Share.{Share}
+use Rattle.leaf.specs.declared.Change.{Change}
 pub mod Laws
 
 -- x is rule r, and its states are bytes.
@@ -21,52 +24,52 @@ pub record RuleAt (rules : List ℕ) (r : ℕ) (x : Rule) : Type 0 where
   pub p′-lt : x .p2 < 256
   pub q′-lt : x .q2 < 256
 
--- The after pair of rule r weighs at end e + 1 at most what the before pair weighs.
-unfoldable pub lightens : Sizes → List ℕ → List ℕ → ℕ → ℕ → ℕ → Bool
-lightens z rules leaves l e r =
-    leb
-    (endWeight z leaves l e (ruleP′ rules r) + endWeight z leaves l e (ruleQ′ rules r))
-    (endWeight z leaves l e (ruleP rules r) + endWeight z leaves l e (ruleQ rules r))
+-- The weights at end e + 1 of the pairs before and after rule r.
+unfoldable pub weightBefore : Sizes → List ℕ → List ℕ → ℕ → ℕ → ℕ → ℕ
+weightBefore z rules leaves l e r = endWeight z leaves l e (ruleP rules r) + endWeight z leaves l e (ruleQ rules r)
 
--- The words of w are the facts of the states at party k.
-pub record KnownAt (F : Facts) (k : ℕ) (w : Known) : Type 0 where
-  pub absent : member (w .absent) ≡ F .absent k
-  pub present : member (w .present) ≡ (λ s. not (F .absent k s) && F .present k s)
-  pub atMostOne : member (w .«at_most_one») ≡ F .atMostOne k
+unfoldable pub weightAfter : Sizes → List ℕ → List ℕ → ℕ → ℕ → ℕ → ℕ
+weightAfter z rules leaves l e r = endWeight z leaves l e (ruleP′ rules r) + endWeight z leaves l e (ruleQ′ rules r)
 
--- The share of state s at the start, y being the sum of its weights, plus 20,000.
-unfoldable pub startShare : Known → ℕ → ℕ → Share
-startShare k s y =
-    record { allowed = member (k .absent) s || leb y 20000; gains = bit (member (k .present) s) * (20000 - y); losses = 0 }
+-- Rule r keeps the weight of end e + 1: that of the after pair is at most that of the before pair; by remainders, the two are
+-- the same modulo m.
+unfoldable pub keeps : Closing → Sizes → List ℕ → List ℕ → ℕ → ℕ → ℕ → Bool
+keeps by z rules leaves l e r = relatesBy by (weightAfter z rules leaves l e r) (weightBefore z rules leaves l e r)
 
--- The share of state s at an end, y being its weight there, plus 10,000.
-unfoldable pub endShare : Known → ℕ → ℕ → Share
-endShare k s y =
-    record {
-      allowed = member (k .absent) s || (leb 10000 y || member (k .«at_most_one») s);
-      gains = bit (member (k .present) s) * (y - 10000);
-      losses = bit (not (member (k .absent) s)) * (10000 - y);
-    }
+-- Rule r with the weights of its pairs, u being the unused ones of the 64 rules of its word; two zeros where it is one of them.
+unfoldable pub changeAt : ℕ → Sizes → List ℕ → List ℕ → ℕ → ℕ → ℕ → Change
+changeAt u z rules leaves l e r =
+    cond (member u (r % 64))
+    (record { rule = r; before = 0; after = 0 })
+    (record { rule = r; before = weightBefore z rules leaves l e r; after = weightAfter z rules leaves l e r })
 
--- The shares at the start and at the two ends together.
-abbrev pub together : Share → Share → Share → Share
-together a b c =
-    record {
-      allowed = a .allowed && b .allowed && c .allowed;
-      gains = b .gains + c .gains + a .gains;
-      losses = b .losses + c .losses;
-    }
+-- The two weights of x differ.
+abbrev pub changes : Change → Bool
+changes x = not (eqb (x .before) (x .after))
+
+-- Rule r is not unused, and changes the weight.
+abbrev pub changesAt : ℕ → Sizes → List ℕ → List ℕ → ℕ → ℕ → ℕ → Bool
+changesAt u z rules leaves l e r = changes (changeAt u z rules leaves l e r)
+
+-- From r on, the first number below n that passes f, or n; r where n is below it.
+unfoldable pub firstFrom : ℕ → ℕ → (ℕ → Bool) → ℕ
+firstFrom r n f = r + firstBelow (n - r) (λ k. f (r + k))
+
+-- From r on, the first rule below n that is not unused and changes the weight, with the weights of its pairs; two zeros where
+-- there is none.
+unfoldable pub nextChange : ℕ → Sizes → List ℕ → List ℕ → ℕ → ℕ → ℕ → ℕ → Change
+nextChange u z rules leaves l e r n =
+    let c = firstFrom r n (changesAt u z rules leaves l e) in
+    cond (ltb c n) (changeAt u z rules leaves l e c) (record { rule = c; before = 0; after = 0 })
+
+-- Rule r is unused, u being the unused ones of the 64 rules of its word, or keeps the weight.
+unfoldable pub keepsIn : Closing → ℕ → Sizes → List ℕ → List ℕ → ℕ → ℕ → ℕ → Bool
+keepsIn by u z rules leaves l e r = member u (r % 64) || keeps by z rules leaves l e r
+
+-- All numbers from r on and below n pass f.
+unfoldable pub allFrom : ℕ → ℕ → (ℕ → Bool) → Bool
+allFrom r n f = allBelow (n - r) (λ k. f (r + k))
 
 -- The share of state s in leaf l, by what is known at the start, at end 1 and at end 2.
-unfoldable pub shareOf : Sizes → List ℕ → ℕ → Known → Known → Known → ℕ → Share
-shareOf z leaves l a b c s =
-    together
-    (startShare a s (endWeight z leaves l 0 s + endWeight z leaves l 1 s))
-    (endShare b s (endWeight z leaves l 0 s))
-    (endShare c s (endWeight z leaves l 1 s))
-
--- r is the share x, and its numbers are at most m.
-pub record ShareIs (m : ℕ) (x r : Share) : Type 0 where
-  pub is : r ≡ x
-  pub gains-most : r .gains ≤ m
-  pub losses-most : r .losses ≤ m
+unfoldable pub shareOf : Closing → Sizes → List ℕ → ℕ → Known → Known → Known → ℕ → Share
+shareOf by z leaves l a b c s = shareBy by a b c s (endWeight z leaves l 0 s) (endWeight z leaves l 1 s)

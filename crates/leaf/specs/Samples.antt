@@ -1,4 +1,4 @@
--- Leaves and what test 11 and the leaf rule say of them, by computation.
+-- Leaves and what test 11, the leaf rule and the remainder rule say of them, by computation.
 use mathlib.Core.Path.{_≡_, refl}
 use mathlib.Core.Bool.{Bool, true, false}
 use mathlib.Core.List.{List, [], _∷_, _++_}
@@ -7,6 +7,7 @@ use lib.Dec.{eqb, ltb}
 use lib.ListN.{set}
 use Rattle.theory.specs.Facts.{Facts, withAbsent, withPresent, withAtMostOne}
 use Rattle.theory.specs.Leaf.{leafCloses}
+use Rattle.theory.specs.Remainder.{remainderCloses}
 use Rattle.theory.specs.Unfold.{closing}
 use Rattle.format.specs.Samples.{reading}
 use Rattle.format.specs.Format.{protocolOf, weightsOf}
@@ -37,6 +38,21 @@ samples-close : closes (withAbsent without-b 1 (eqb 1)) leaf ∷ closes without-
     ≡ true ∷ false ∷ false ∷ []
 unfolding closing reading freshOf
 samples-close = refl
+
+-- The same leaf by remainders, where A is at most one at end 1, where it is present, and B is absent at both ends: the sum is
+-- 1, which is not 0 modulo 2 and modulo 7. It does not close where A is not known to be at most one, nor where A is absent at
+-- end 1 too, nor with zeros for weights.
+abbrev closesModulo : ℕ → Facts → List ℕ → Bool
+closesModulo m F leaves = remainderCloses (protocolOf sizes (2 ∷ 3 ∷ 0 ∷ 1 ∷ []) rules) m F (weightsOf sizes leaves 0)
+
+abbrev one-a : Facts
+one-a = withAbsent (withAtMostOne (withAbsent without-b 1 (eqb 1)) 1 (eqb 0)) 2 (eqb 1)
+
+samples-modulo : closesModulo 2 one-a leaf ∷ closesModulo 7 one-a leaf ∷ closesModulo 2 (withAbsent (withAbsent without-b 1 (eqb 1)) 2 (eqb 1)) leaf
+    ∷ closesModulo 2 (withAbsent one-a 1 (eqb 0)) leaf ∷ closesModulo 2 one-a [] ∷ []
+    ≡ true ∷ true ∷ false ∷ false ∷ false ∷ []
+unfolding closing reading freshOf
+samples-modulo = refl
 
 -- Weights 10,000, 10,001, -10,000 and -10,001 at the last place.
 abbrev last : ℕ → ℕ → Bool

@@ -1,35 +1,26 @@
-// The leaves of a docket: test 11, and the leaf rule. A weight is read with 10,000 added, so all numbers are unsigned.
-// Every public function is total. A function is lent the states section where its contract speaks of the protocol.
+// The leaves of a docket: test 11, and whether a leaf closes, by the leaf rule or by the remainder rule. A weight is read with
+// 10,000 added, so all numbers are unsigned. Every public function is total. A function is lent the states section where its contract speaks of the protocol.
 ghost use mathlib.Core.Path.{_≡_};
-ghost use mathlib.Core.Bool.{_||_};
-ghost use Prim.Native.Nat.{_+_, _-_, _*_, _<_};
-ghost use Rattle.theory.specs.Bool.{bit, member};
+ghost use Prim.Native.Nat.{_+_, _<_};
 ghost use Rattle.theory.specs.Below.{firstBelow};
-ghost use Rattle.theory.specs.Leaf.{nonIncreasing, leafCloses};
 ghost use Rattle.format.specs.Code.{Value};
 ghost use Rattle.format.specs.Format.{protocolOf, endWeight, weightsOf};
 ghost use Rattle.facts.specs.Code.{factsOf};
+ghost use Rattle.share.specs.Code.{closesBy, keptBy, KnownAt, ShareIs};
 ghost use Rattle.leaf.specs.Leaf.{overLimit, badLeaf};
-ghost use Rattle.leaf.specs.Code.{RuleAt, lightens, KnownAt, startShare, endShare, shareOf, ShareIs};
+ghost use Rattle.leaf.specs.Code.{RuleAt, changeAt, nextChange, keepsIn, allFrom, shareOf};
 use facts::Facts;
 use format::Rule;
 use format::Sizes;
+use share::Closing;
+use share::Known;
+use share::Share;
 
-// What the facts say of the states at one party. A state that is absent is not among those present.
-pub struct Known {
-    pub absent: u64,
-    pub present: u64,
-    pub at_most_one: u64,
-}
-
-// The share of one state in the leaf rule.
-pub struct Share {
-    // Whether the facts allow the signs of its weights.
-    pub allowed: bool,
-    // Its surpluses and its spare together.
-    pub gains: u32,
-    // Its shortfalls together.
-    pub losses: u32,
+// A rule, and the weights of its pairs at an end, each plus 20,000; two zeros for a rule that is unused.
+struct Change {
+    rule: u16,
+    before: u32,
+    after: u32,
 }
 
 // The first state at which leaf l has a weight outside -10,000 to 10,000 at end e + 1, or the number of states.
@@ -86,31 +77,84 @@ fn rule_at(rules: &[u8], r: u16) -> Rule
     format::read_rule(rules, r)
 }
 
-// Whether i is a member of unused, or the after pair of rule r weighs at end e + 1 at most what the before pair weighs.
-fn rule_lightens(
+// Rule r with the weights of its pairs at end e + 1; unused has the unused ones of the 64 rules of its word.
+fn rule_change(rules: &[u8], leaves: &[u8], z: Sizes, l: u16, e: u16, unused: u64, r: u16) -> Change
+    ensures { λ x. ⌜ x ≡ changeAt unused z (now (rules .entry)) (now (leaves .entry)) l e r ⌝ }
+{
+    if bits::has(unused, (r as usize) % 64) {
+        return Change {
+            rule: r,
+            before: 0,
+            after: 0,
+        };
+    }
+    let rule = rule_at(rules, r);
+    let before = pair_weight(leaves, z, l, e, rule.p, rule.q);
+    let after = pair_weight(leaves, z, l, e, rule.p2, rule.q2);
+    Change {
+        rule: r,
+        before,
+        after,
+    }
+}
+
+// From rule r on, the first rule below n that is not unused and changes the weight of end e + 1, or n with two zeros.
+fn next_change(
     rules: &[u8],
     leaves: &[u8],
     z: Sizes,
     l: u16,
     e: u16,
     unused: u64,
-    i: usize,
     r: u16,
-) -> bool
-    ensures { λ t. ⌜ t ≡ (member unused i || lightens z (now (rules .entry)) (now (leaves .entry)) l e r) ⌝ }
+    n: u16,
+) -> Change
+    ensures { λ x. ⌜ x ≡ nextChange unused z (now (rules .entry)) (now (leaves .entry)) l e r n ⌝ }
 {
-    if bits::has(unused, i) {
-        return true;
+    let mut c = r;
+    while c < n {
+        let x = rule_change(rules, leaves, z, l, e, unused, c);
+        if x.before != x.after {
+            return x;
+        }
+        c += 1;
     }
-    let rule = rule_at(rules, r);
-    let before = pair_weight(leaves, z, l, e, rule.p, rule.q);
-    let after = pair_weight(leaves, z, l, e, rule.p2, rule.q2);
-    after <= before
+    Change {
+        rule: c,
+        before: 0,
+        after: 0,
+    }
 }
 
-// Whether every rule that is not unused in run e + 1 has an after pair that weighs at end e + 1 at most what the before
-// pair weighs. The set of unused rules is read once for 64 rules.
-fn non_increasing(
+// Whether every rule from r on and below n that is not unused keeps the weight of end e + 1: that of the after pair is at most
+// that of the before pair; by remainders, the two are the same modulo m. A rule that does not change the weight keeps it.
+fn word_keeps(
+    by: Closing,
+    rules: &[u8],
+    leaves: &[u8],
+    z: Sizes,
+    l: u16,
+    e: u16,
+    unused: u64,
+    r: u16,
+    n: u16,
+) -> bool
+    ensures { λ t. ⌜ t ≡ allFrom r n (keepsIn by unused z (now (rules .entry)) (now (leaves .entry)) l e) ⌝ }
+{
+    let mut x = next_change(rules, leaves, z, l, e, unused, r, n);
+    while x.rule < n {
+        if !share::relates(by, x.after as u64, x.before as u64) {
+            return false;
+        }
+        x = next_change(rules, leaves, z, l, e, unused, x.rule + 1, n);
+    }
+    true
+}
+
+// Whether every rule that is not unused in run e + 1 keeps the weight of end e + 1. The set of unused rules is read once for
+// 64 rules.
+fn rules_keep(
+    by: Closing,
     facts: Facts,
     states: &[u8],
     rules: &[u8],
@@ -119,24 +163,19 @@ fn non_increasing(
     l: u16,
     e: u16,
 ) -> bool
-    ensures { λ t. ⌜ t ≡ nonIncreasing (protocolOf z (now (states .entry)) (now (rules .entry)))
+    ensures { λ t. ⌜ t ≡ keptBy (protocolOf z (now (states .entry)) (now (rules .entry))) by
         (factsOf facts .unused (e + 1)) (endWeight z (now (leaves .entry)) l e) ⌝ }
 {
     let run = (e as usize) + 1;
-    let mut word: usize = 0;
     let mut r: u16 = 0;
-    'words: while r < z.rules {
-        let unused = facts.unused(run, word);
-        let n = format::lesser((z.rules - r) as u32, 64) as usize;
-        let mut i: usize = 0;
-        'rules: while i < n {
-            if !rule_lightens(rules, leaves, z, l, e, unused, i, r) {
-                return false;
-            }
-            i += 1;
-            r += 1;
+    while r < z.rules {
+        let word = r / 64;
+        let unused = facts.unused(run, word as usize);
+        let n = format::lesser(z.rules as u32, 64 * (word as u32) + 64) as u16;
+        if !word_keeps(by, rules, leaves, z, l, e, unused, r, n) {
+            return false;
         }
-        word += 1;
+        r = n;
     }
     true
 }
@@ -154,64 +193,9 @@ fn known_at(facts: Facts, party: usize) -> Known
     }
 }
 
-// How much a exceeds b, or 0; and 0 unless it counts.
-fn excess(counts: bool, a: u32, b: u32) -> u32
-    ensures { λ x. ⌜ Value (a + 1) (bit counts * (a - b)) x ⌝ }
-{
-    if !counts {
-        return 0;
-    }
-    if a < b {
-        return 0;
-    }
-    a - b
-}
-
-// The share of state i at the start: y is the sum of its two weights, plus 20,000.
-fn start_share(known: Known, i: usize, y: u32) -> Share
-    ensures { λ x. ⌜ ShareIs (20000 + y) (startShare known i y) x ⌝ }
-{
-    if 20000 < y {
-        return Share {
-            allowed: bits::has(known.absent, i),
-            gains: 0,
-            losses: 0,
-        };
-    }
-    Share {
-        allowed: true,
-        gains: excess(bits::has(known.present, i), 20000, y),
-        losses: 0,
-    }
-}
-
-// The share of state i at an end: y is its weight there, plus 10,000.
-fn end_share(known: Known, i: usize, y: u32) -> Share
-    ensures { λ x. ⌜ ShareIs (20000 + y) (endShare known i y) x ⌝ }
-{
-    if 10000 <= y {
-        return Share {
-            allowed: true,
-            gains: excess(bits::has(known.present, i), y, 10000),
-            losses: 0,
-        };
-    }
-    if bits::has(known.absent, i) {
-        return Share {
-            allowed: true,
-            gains: 0,
-            losses: 0,
-        };
-    }
-    Share {
-        allowed: bits::has(known.at_most_one, i),
-        gains: 0,
-        losses: 10000 - y,
-    }
-}
-
-// The share of state s at the start and at both ends. It is nothing where both weights are 0.
+// The share of state s. It is nothing where both weights are 0.
 fn share_at(
+    by: Closing,
     start: Known,
     first: Known,
     second: Known,
@@ -220,7 +204,7 @@ fn share_at(
     l: u16,
     s: u16,
 ) -> Share
-    ensures { λ x. ⌜ ShareIs 1048576 (shareOf z (now (leaves .entry)) l start first second s) x ⌝ }
+    ensures { λ x. ⌜ ShareIs 68719476736 (shareOf by z (now (leaves .entry)) l start first second s) x ⌝ }
 {
     let y1 = format::leaf_weight(leaves, z.states, l, 0, s);
     let y2 = format::leaf_weight(leaves, z.states, l, 1, s);
@@ -231,19 +215,12 @@ fn share_at(
             losses: 0,
         };
     }
-    let i = s as usize;
-    let a = start_share(start, i, y1 + y2);
-    let b = end_share(first, i, y1);
-    let c = end_share(second, i, y2);
-    Share {
-        allowed: a.allowed & b.allowed & c.allowed,
-        gains: b.gains + c.gains + a.gains,
-        losses: b.losses + c.losses,
-    }
+    share::share_by(by, start, first, second, s as usize, y1, y2)
 }
 
-// The leaf rule: whether leaf l closes on the facts.
+// Whether leaf l closes on the facts: by sums, the leaf rule; by remainders, the remainder rule.
 pub fn leaf_closes(
+    by: Closing,
     facts: Facts,
     states: &[u8],
     rules: &[u8],
@@ -251,13 +228,13 @@ pub fn leaf_closes(
     z: Sizes,
     l: u16,
 ) -> bool
-    ensures { λ r. ⌜ r ≡ leafCloses (protocolOf z (now (states .entry)) (now (rules .entry)))
+    ensures { λ r. ⌜ r ≡ closesBy (protocolOf z (now (states .entry)) (now (rules .entry))) by
         (factsOf facts) (weightsOf z (now (leaves .entry)) l) ⌝ }
 {
-    if !non_increasing(facts, states, rules, leaves, z, l, 0) {
+    if !rules_keep(by, facts, states, rules, leaves, z, l, 0) {
         return false;
     }
-    if !non_increasing(facts, states, rules, leaves, z, l, 1) {
+    if !rules_keep(by, facts, states, rules, leaves, z, l, 1) {
         return false;
     }
     let start = known_at(facts, 0);
@@ -267,13 +244,13 @@ pub fn leaf_closes(
     let mut losses: u64 = 0;
     let mut s: u16 = 0;
     while s < z.states {
-        let one = share_at(start, first, second, leaves, z, l, s);
+        let one = share_at(by, start, first, second, leaves, z, l, s);
         if !one.allowed {
             return false;
         }
-        gains += one.gains as u64;
-        losses += one.losses as u64;
+        gains += one.gains;
+        losses += one.losses;
         s += 1;
     }
-    losses < gains
+    !share::relates(by, gains, losses)
 }

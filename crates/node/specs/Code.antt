@@ -9,9 +9,8 @@ use Rattle.theory.specs.Bool.{member, imp}
 use Rattle.theory.specs.Below.{allBelow}
 use Rattle.theory.specs.Protocol.{Protocol}
 use Rattle.theory.specs.Facts.{Facts, withAbsent, withAtMostOne, withUnused}
-use Rattle.theory.specs.Leaf.{leafCloses}
 use Rattle.theory.specs.Tree as theory
-use Rattle.theory.specs.Tree.{Assumption, refusalNumber, ground, children, takes, puts, touches, within, isTrap, isSiphon, node}
+use Rattle.theory.specs.Tree.{Assumption, assuming, refusalNumber, ground, children, takes, puts, touches, within, isTrap, isSiphon, node}
 use Rattle.bits.specs.Code.{amongOf, withoutOf}
 use Rattle.format.specs.Format.{isOutput, ruleP, ruleQ, ruleP′, ruleQ′, nodeKind, nodeParty, nodeArgument, nodeSet}
 use Rattle.format.specs.Format.{protocolOf, treeOf, weightsOf}
@@ -37,7 +36,7 @@ assumedWord a k = cond (outputAt a k) (a .ones) (a .zeros)
 
 -- What the aim assumes, weights l being the weights of leaf l.
 abbrev pub assumptionOf : Protocol → (ℕ → ℕ → ℕ → ℕ) → Aim → Assumption
-assumptionOf P weights a = record { runs = a .runs; assumed = outputAt a; closes = λ F l. leafCloses P F (weights l) }
+assumptionOf P weights a = assuming P (a .runs) (outputAt a) weights
 
 -- The aim speaks of at most two runs, and its words hold the states of each output.
 pub record AimFits (z : Sizes) (states : List ℕ) (a : Aim) : Type 0 where
@@ -139,6 +138,10 @@ ruleFields z runs n = leb 1 (n .party) && leb (n .party) runs && ltb (n .argumen
 abbrev pub setFields : Sizes → ℕ → Node → Bool
 setFields z runs n =
     leb 1 (n .party) && leb (n .party) runs && eqb (n .argument) 0 && (ltb 0 (n .set) && ltb (n .set) (2 ^ z .states))
+
+-- Kind 7: the argument is a leaf, the set a modulus.
+abbrev pub remainderFields : Sizes → Node → Bool
+remainderFields z n = eqb (n .party) 0 && ltb (n .argument) (z .leaves) && (leb 2 (n .set) && leb (n .set) 1000)
 
 -- Kind 1: all states of the output assumed for end k are absent there.
 unfoldable pub outputGone : Sizes → List ℕ → Aim → Facts → ℕ → Bool

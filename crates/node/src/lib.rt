@@ -8,15 +8,17 @@ ghost use lib.Dec.{eqb, ltb};
 ghost use Rattle.theory.specs.Bool.{member};
 ghost use Rattle.theory.specs.Facts.{withAbsent, withPresent, withUnused};
 ghost use Rattle.theory.specs.Leaf.{leafCloses};
+ghost use Rattle.theory.specs.Remainder.{remainderCloses};
 ghost use Rattle.theory.specs.Tree.{touches};
 ghost use Rattle.format.specs.Format.{ruleP, ruleQ, protocolOf, weightsOf};
 ghost use Rattle.facts.specs.Code.{factsOf, onlyIf};
 ghost use Rattle.node.specs.Code.{assumedWord, AimFits, nodeOf, SoundRules, FlowAt, breakingOf, isTrapOf};
 ghost use Rattle.node.specs.Code.{check, judged, turnAt, turnOfOutcome, turnOfStep};
-ghost use Rattle.node.specs.Code.{leafFields, runFields, stateFields, ruleFields, setFields};
+ghost use Rattle.node.specs.Code.{leafFields, runFields, stateFields, ruleFields, setFields, remainderFields};
 ghost use Rattle.node.specs.Code.{outputGone, NamesRule, disabledChildren, NamesSet, partyIf, setGround, setChild};
 use facts::Facts;
 use format::Sizes;
+use share::Closing;
 
 // What a tree refutes: so many runs, each of which ends with a state of the output assumed for it; and the states of
 // output 0 and of output 1.
@@ -111,7 +113,7 @@ fn leaf_step(states: &[u8], rules: &[u8], leaves: &[u8], z: Sizes, n: Node, fact
         (factsOf facts) (weightsOf z (now (leaves .entry)) (n .argument))) [] ⌝ }
 {
     let fields = (n.party == 0) & (n.argument < z.leaves) & (n.set == 0);
-    let closes = leaf::leaf_closes(facts, states, rules, leaves, z, n.argument);
+    let closes = leaf::leaf_closes(Closing::BySums, facts, states, rules, leaves, z, n.argument);
     judge(fields, closes, Outcome::Closed, facts, facts)
 }
 
@@ -311,6 +313,25 @@ fn set_step(
     judge(fields, absent & t.trap, Outcome::Child, t.child, t.child)
 }
 
+// Kind 7: the remainder rule; the set field is the modulus.
+fn remainder_step(
+    states: &[u8],
+    rules: &[u8],
+    leaves: &[u8],
+    z: Sizes,
+    n: Node,
+    facts: Facts,
+) -> Step
+    ensures { λ r. ⌜ turnOfStep r ≡ judged (remainderFields z n)
+        (remainderCloses (protocolOf z (now (states .entry)) (now (rules .entry))) (n .set)
+        (factsOf facts) (weightsOf z (now (leaves .entry)) (n .argument))) [] ⌝ }
+{
+    let fields = (n.party == 0) & (n.argument < z.leaves) & ((2 <= n.set) & (n.set <= 1000));
+    let by = Closing::ByRemainders(n.set);
+    let closes = leaf::leaf_closes(by, facts, states, rules, leaves, z, n.argument);
+    judge(fields, closes, Outcome::Closed, facts, facts)
+}
+
 // Node i on the facts, by its kind.
 pub fn node_step(
     states: &[u8],
@@ -337,6 +358,7 @@ pub fn node_step(
         4 => split_step(z, aim.runs, n, facts),
         5 => set_step(states, rules, z, aim.runs, n, facts, false),
         6 => set_step(states, rules, z, aim.runs, n, facts, true),
-        7..=255 => judge(false, true, Outcome::Closed, facts, facts),
+        7 => remainder_step(states, rules, leaves, z, n, facts),
+        8..=255 => judge(false, true, Outcome::Closed, facts, facts),
     }
 }

@@ -8,6 +8,7 @@ pub mod Protocol
 pub mod Ladder
 pub mod Facts
 pub mod Leaf
+pub mod Remainder
 pub mod Tree
 pub mod Subtree
 pub mod Potential

@@ -1,4 +1,4 @@
--- The tree of arguments of document 01, "The tree": traps and siphons, nodes with their grounds and children, and the walk.
+-- The tree of arguments of document 01, "The tree", with kind 7 of document 02: traps and siphons, nodes with their grounds and children, and the walk.
 use mathlib.Core.Bool.{Bool, true, false, cond, _&&_, _||_, Bool·beq}
 use mathlib.Core.List.{List, [], _∷_}
 use Prim.Native.Nat.{ℕ, zero, suc, _^_, max}
@@ -9,6 +9,7 @@ use Rattle.theory.specs.Below.{allBelow, sumBelow}
 use Rattle.theory.specs.Protocol.{Protocol}
 use Rattle.theory.specs.Facts.{Facts, withAbsent, withPresent, withAtMostOne, withUnused, fresh}
 use Rattle.theory.specs.Leaf.{leafCloses}
+use Rattle.theory.specs.Remainder.{remainderCloses}
 pub mod Traps
 pub mod Laws
 pub mod Consensus
@@ -26,23 +27,32 @@ pub record Tree : Type 0 where
 unfoldable pub setSize : ℕ → ℕ
 setSize w = sumBelow 64 (λ s. bit (member w s))
 
--- The size of the widest set that a node of kind 5 or 6 among the first n names, 0 where none does.
+-- The size of the widest set that a node of kind 5 or 6 among the first n names, 0 where none does. A modulus (kind 7) is
+-- no set.
 unfoldable pub widestBelow : Tree → ℕ → ℕ
 widestBelow T zero = 0
 widestBelow T (suc n) = max (widestBelow T n) (cond (eqb (T .kind n) 5 || eqb (T .kind n) 6) (setSize (T .set n)) 0)
 
--- M: how many states the widest set of the tree names, 0 where there is none.
+-- M: how many states the widest set of the tree names, 0 where there is none. In an accepted docket the sets are those of
+-- kinds 5 and 6: in kinds 0 to 4 the set field is 0, in kind 7 it is a modulus, which does not count.
 unfoldable pub widest : Tree → ℕ
 widest T = widestBelow T (T .nodes)
 
+-- The set field of kind 7: a modulus, 2 to 1,000.
+unfoldable pub isModulus : ℕ → Bool
+isModulus m = leb 2 m && leb m 1000
+
 -- What a tree refutes: so many runs from one start, each of which ends at a terminal configuration that holds a state of
--- the output assumed for it. closes says which leaves close on which facts.
+-- the output assumed for it. closes F l: leaf l closes on the facts F. moduli m: a node of kind 7 may have the modulus m
+-- (none may where trees have no such nodes); closesModulo m F l: leaf l closes on the facts F by remainders modulo m.
 pub record Assumption : Type 0 where
   pub runs : ℕ
   pub assumed : ℕ → Bool
   pub closes : Facts → ℕ → Bool
+  pub moduli : ℕ → Bool
+  pub closesModulo : ℕ → Facts → ℕ → Bool
 
--- A node whose fields are as its kind wants them, by kind 0 to 6; or bad.
+-- A node whose fields are as its kind wants them, by kind 0 to 7; or bad.
 --   leaf l             leaf l closes
 --   outputAbsent k     all states of the output assumed for end k are absent there
 --   contradiction k s  state s is both present and absent at party k
@@ -50,6 +60,7 @@ pub record Assumption : Type 0 where
 --   caseSplit k s      state s is absent at party k, or present
 --   trap k w           the set w is absent at end k, so it was at the start
 --   siphon k w         the set w is absent at the start, so it is at end k
+--   remainder l m      leaf l closes by remainders modulo m
 pub data Node : Type 0 where
   leaf : ℕ → Node
   outputAbsent : ℕ → Node
@@ -58,6 +69,7 @@ pub data Node : Type 0 where
   caseSplit : ℕ → ℕ → Node
   trap : ℕ → ℕ → Node
   siphon : ℕ → ℕ → Node
+  remainder : ℕ → ℕ → Node
   bad : Node
 
 -- The number of the node at which the walk goes on, or a refusal's number and place.
@@ -79,6 +91,7 @@ refusalNumber (disabled k r) = 13
 refusalNumber (caseSplit k s) = 13
 refusalNumber (trap k w) = 13
 refusalNumber (siphon k w) = 13
+refusalNumber (remainder l m) = 13
 refusalNumber bad = 12
 
 -- Children in preorder, each on its own facts; t walks one child.
@@ -133,12 +146,24 @@ module _ (P : Protocol) where
   children F (caseSplit k s) = withAbsent F k (eqb s) ∷ withPresent F k (eqb s) ∷ []
   children F (trap k w) = withUnused (withAbsent F 0 (member w)) k (touches (member w)) ∷ []
   children F (siphon k w) = withUnused (withAbsent F k (member w)) k (touches (member w)) ∷ []
+  children F (remainder l m) = []
   children F bad = []
 
-  -- What the tree of a docket refutes: run 1 ends with a state of output 0 and run 2 with one of output 1. weights l k s
-  -- is the biased weight of leaf l at end k.
+  -- The assumption of so many runs, with the output assumed for each, and the leaves of a docket: weights l k s is the biased
+  -- weight of leaf l at end k.
+  abbrev pub assuming : ℕ → (ℕ → Bool) → (ℕ → ℕ → ℕ → ℕ) → Assumption
+  assuming runs assumed weights =
+      record {
+        runs = runs;
+        assumed = assumed;
+        closes = λ F l. leafCloses P F (weights l);
+        moduli = isModulus;
+        closesModulo = λ m F l. remainderCloses P m F (weights l);
+      }
+
+  -- What the tree of a docket refutes: run 1 ends with a state of output 0 and run 2 with one of output 1.
   unfoldable pub disagreement : (ℕ → ℕ → ℕ → ℕ) → Assumption
-  disagreement weights = record { runs = 2; assumed = λ k. eqb k 2; closes = λ F l. leafCloses P F (weights l) }
+  disagreement weights = assuming 2 (λ k. eqb k 2) weights
 
 module _ (P : Protocol) (H : Assumption) where
   -- Whether party k is a run.
@@ -154,6 +179,7 @@ module _ (P : Protocol) (H : Assumption) where
   ground F (caseSplit k s) = true
   ground F (trap k w) = within P (member w) (F .absent k) && isTrap P (F .unused k) (member w)
   ground F (siphon k w) = within P (member w) (F .absent 0) && isSiphon P (F .unused k) (member w)
+  ground F (remainder l m) = H .closesModulo m F l
   ground F bad = false
 
   module _ (T : Tree) where
@@ -167,6 +193,7 @@ module _ (P : Protocol) (H : Assumption) where
         ∷ checked (leb k (H .runs) && ltb a (P .states) && eqb w 0) (caseSplit k a)
         ∷ checked (isRun k && eqb a 0 && isSet P w) (trap k w)
         ∷ checked (isRun k && eqb a 0 && isSet P w) (siphon k w)
+        ∷ checked (eqb k 0 && ltb a (T .leaves) && H .moduli w) (remainder a w)
         ∷ []
 
     -- Node i; an unknown kind is bad.

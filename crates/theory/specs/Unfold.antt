@@ -10,8 +10,9 @@ use Rattle.theory.specs.Ladder.{isLower, fits, handoverAt, handover, ena
 use Rattle.theory.specs.Ladder.{spread, lowersAt, lowering, spreads, spreadsAbove, rankAt, rank}
 use Rattle.theory.specs.Facts.{extend, withAbsent, withPresent, withAtMostOne, withUnused, fresh}
 use Rattle.theory.specs.Leaf.{nonIncreasing, startFits, spare, endFits, surplus, shortfall, leafCloses}
+use Rattle.theory.specs.Remainder.{congruent, exactlyOne, conserved, startVanishes, endVanishes, excess, deficit, remainderCloses}
 use Rattle.theory.specs.Tree.{setSize, widestBelow, widest, checked, refusalNumber, forest, takes, puts, touches, follows, isTrap, isSiphon}
-use Rattle.theory.specs.Tree.{within, isSet, children, disagreement, isRun, ground, byKind, node, treeAt, treeAnswer}
+use Rattle.theory.specs.Tree.{within, isSet, isModulus, children, disagreement, isRun, ground, byKind, node, treeAt, treeAnswer}
 use Rattle.theory.specs.Machine.{isRefused, meetingsOf, isSized, isWithin, admitted, admit, chosen, runNumbers}
 use Rattle.theory.specs.Machine.{stepReply, runReply, reply, adds, countsAfter, numbersOf}
 use Rattle.theory.specs.Machine.Lists.{lastCounts, reported}
@@ -32,16 +33,17 @@ unfolding meeting isLower fits handoverAt handover enabledIn active lowest layer
     spread lowersAt lowering spreads spreadsAbove rankAt rank
 laddering = 0
 
--- The leaf rule.
+-- The leaf rule and the remainder rule.
 unfoldable pub closing : ℕ
 unfolding bounds extend withAbsent withPresent withAtMostOne withUnused fresh
     nonIncreasing startFits spare endFits surplus shortfall leafCloses
+    congruent exactlyOne conserved startVanishes endVanishes excess deficit remainderCloses
 closing = 0
 
 -- The tree.
 unfoldable pub walking : ℕ
 unfolding closing member setSize widestBelow widest checked refusalNumber forest takes puts touches follows isTrap isSiphon
-    within isSet children disagreement isRun ground byKind node treeAt treeAnswer
+    within isSet isModulus children disagreement isRun ground byKind node treeAt treeAnswer
 walking = 0
 
 -- The machine's calls.

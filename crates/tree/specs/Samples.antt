@@ -39,3 +39,8 @@ samples = (refl, refl, refl, refl, refl)
 pub one-wide : widest (treeOf (sizes 5) (nodes 2)) ≡ 1
 unfolding walking reading
 one-wide = refl
+
+-- A modulus counts for nothing, whatever its bits: node 5 is of kind 7 with modulus 255.
+pub modulus-not-wide : widest (treeOf (sizes 6) (node-of 3 1 0 (node-of 1 1 0 (node-of 5 1 2 (node-of 6 2 2 (node-of 1 2 0 (node-of 7 0 255 []))))))) ≡ 1
+unfolding walking reading
+modulus-not-wide = refl

@@ -32,4 +32,5 @@ claims b = record {
   weight-is = weight-is;
   weight-within = weight-within;
   leaf-rule = λ h F l. theorems (protocolIn b h) .leaf-is F (weightsOf (h .sizes) (sectionsOf b h .leaves) l);
+  remainder-rule = λ h F m l. theorems (protocolIn b h) .remainder-is m F (weightsOf (h .sizes) (sectionsOf b h .leaves) l);
 }

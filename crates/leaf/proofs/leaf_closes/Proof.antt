@@ -4,26 +4,26 @@ use Rattle.leaf.proofs.leaf_closes.Statement.{statement}
 use Rattle.leaf.proofs.leaf_closes.Tie as tie
 use Prim.Native.Nat.{_-_, _≤_}
 use Rattle.leaf.specs.Code.{shareOf}
-use Rattle.leaf.specs.Code.Laws.{Added, adding, leafRule}
+use Rattle.leaf.specs.Code.Laws.{Added, adding, closings}
 
 abbrev Inv-loop : tie.InvT-loop
-Inv-loop states rules leaves z l start first second gains₀ losses₀ s₀ gains losses s =
-    (s ≤ z .states) × Added (shareOf z leaves l start first second) s gains losses
+Inv-loop by states rules leaves z l start first second gains₀ losses₀ s₀ gains losses s =
+    (s ≤ z .states) × Added (shareOf by z leaves l start first second) s gains losses
 
 abbrev μ-loop : tie.MeasureT-loop
-μ-loop states rules leaves z l start first second gains₀ losses₀ s₀ gains losses s = z .states - s
+μ-loop by states rules leaves z l start first second gains₀ losses₀ s₀ gains losses s = z .states - s
 
-non-increasing-requires : tie.Need-non-increasing-requires Inv-loop μ-loop
-non-increasing-requires c κs = search needs
+rules-keep-requires : tie.Need-rules-keep-requires Inv-loop μ-loop
+rules-keep-requires c κs = search needs
 
 returns : tie.Need-returns Inv-loop μ-loop
-returns c = search (leafRule, needs)
+returns c = search (closings, needs)
 
-non-increasing-requires-2 : tie.Need-non-increasing-requires-2 Inv-loop μ-loop
-non-increasing-requires-2 c κs = search needs
+rules-keep-requires-2 : tie.Need-rules-keep-requires-2 Inv-loop μ-loop
+rules-keep-requires-2 c κs = search needs
 
 returns-2 : tie.Need-returns-2 Inv-loop μ-loop
-returns-2 c = search (leafRule, needs)
+returns-2 c = search (closings, needs)
 
 known-at-requires : tie.Need-known-at-requires Inv-loop μ-loop
 known-at-requires c κs = search needs
@@ -41,16 +41,10 @@ share-at-requires : tie.Need-share-at-requires Inv-loop μ-loop
 share-at-requires c κs = search needs
 
 returns-3 : tie.Need-returns-3 Inv-loop μ-loop
-returns-3 c = search (leafRule, needs)
-
-cast-gains : tie.Need-cast-gains Inv-loop μ-loop
-cast-gains c = search needs
+returns-3 c = search (closings, needs)
 
 add-gains : tie.Need-add-gains Inv-loop μ-loop
 add-gains c = search needs
-
-cast-losses : tie.Need-cast-losses Inv-loop μ-loop
-cast-losses c = search needs
 
 add-losses : tie.Need-add-losses Inv-loop μ-loop
 add-losses c = search needs
@@ -64,8 +58,11 @@ loop-less c = search needs
 loop-again : tie.Need-loop-again Inv-loop μ-loop
 loop-again c = search (adding, needs)
 
+relates-requires : tie.Need-relates-requires Inv-loop μ-loop
+relates-requires c κs = search needs
+
 returns-4 : tie.Need-returns-4 Inv-loop μ-loop
-returns-4 c = search (leafRule, needs)
+returns-4 c = search (closings, needs)
 
 pub leaf-closes-spec : {M : Type 1} → statement M
 leaf-closes-spec =
@@ -73,9 +70,9 @@ leaf-closes-spec =
     (tie.spec
     Inv-loop
     μ-loop
-    non-increasing-requires
+    rules-keep-requires
     returns
-    non-increasing-requires-2
+    rules-keep-requires-2
     returns-2
     known-at-requires
     known-at-requires-2
@@ -83,11 +80,10 @@ leaf-closes-spec =
     loop-holds
     share-at-requires
     returns-3
-    cast-gains
     add-gains
-    cast-losses
     add-losses
     add-s
     loop-less
     loop-again
+    relates-requires
     returns-4)

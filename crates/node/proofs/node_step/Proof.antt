@@ -1,4 +1,4 @@
--- Each arm is the node of its kind; beyond kind 6 the node is bad.
+-- Each arm is the node of its kind; beyond kind 7 the node is bad.
 use Rattle.node.specs.Code.Laws.{kinds, kind-unknown}
 use borrow.Author.Needs.{needs}
 use Rattle.node.proofs.node_step.Statement.{statement}
@@ -28,6 +28,9 @@ set-step-requires c κs = search needs
 set-step-requires-2 : tie.Need-set-step-requires-2
 set-step-requires-2 c κs = search needs
 
+remainder-step-requires : tie.Need-remainder-step-requires
+remainder-step-requires c κs = search needs
+
 judge-requires : tie.Need-judge-requires
 judge-requires c κs = search needs
 
@@ -53,7 +56,10 @@ returns-7 : tie.Need-returns-7
 returns-7 c = search (kinds, needs)
 
 returns-8 : tie.Need-returns-8
-returns-8 c = let u = c .before .match .rest in search (kind-unknown, needs)
+returns-8 c = search (kinds, needs)
+
+returns-9 : tie.Need-returns-9
+returns-9 c = let u = c .before .match .rest in search (kind-unknown, needs)
 
 pub node-step-spec : {M : Type 1} → statement M
 node-step-spec =
@@ -67,6 +73,7 @@ node-step-spec =
     split-step-requires
     set-step-requires
     set-step-requires-2
+    remainder-step-requires
     judge-requires
     returns
     returns-2
@@ -75,4 +82,5 @@ node-step-spec =
     returns-5
     returns-6
     returns-7
-    returns-8)
+    returns-8
+    returns-9)

@@ -17,9 +17,10 @@ use Rattle.theory.specs.Below.Laws.{all-same, all-intro, all-elim}
 use Rattle.theory.specs.Protocol.{Protocol}
 use Rattle.theory.specs.Facts.{Facts, withAbsent, withPresent, withAtMostOne, withUnused}
 use Rattle.theory.specs.Leaf.{leafCloses}
+use Rattle.theory.specs.Remainder.{remainderCloses}
 use Rattle.theory.specs.Tree as tree
-use Rattle.theory.specs.Tree.{Assumption, leaf, outputAbsent, contradiction, disabled, caseSplit, trap, siphon, bad, checked}
-use Rattle.theory.specs.Tree.{takes, puts, touches, follows, isTrap, isSiphon, within, isSet, isRun, children, ground, byKind, node, refusalNumber}
+use Rattle.theory.specs.Tree.{Assumption, leaf, outputAbsent, contradiction, disabled, caseSplit, trap, siphon, remainder, bad, checked}
+use Rattle.theory.specs.Tree.{takes, puts, touches, follows, isTrap, isSiphon, within, isSet, isModulus, isRun, children, ground, byKind, node, refusalNumber}
 use Rattle.bits.specs.Code.{inWords, singleOf, fullOf, amongOf, unionOf, withIf, withoutOf, subsetOf}
 use Rattle.bits.specs.Code.Laws.{member-above, member-small, all-wider, subset-states, among-none, among-more}
 use Rattle.format.specs.Format.{Sections, isOutput, ruleP, ruleQ, ruleOf, protocolOf, treeOf, weightsOf}
@@ -28,8 +29,10 @@ use Rattle.format.specs.declared.Sizes.{Sizes}
 use Rattle.shape.specs.Sound.{Limits, SoundSections}
 use Rattle.facts.specs.Code.{onlyIf, inWord, fromWord}
 use Rattle.facts.specs.Code.Laws.{within-party, within-states, MarkedBelow, marked-none, marked-more}
+use Rattle.share.specs.Code.{closesBy}
+use Rattle.share.specs.declared.Closing.the-variants.{BySums, ByRemainders}
 use Rattle.node.specs.Code.{outputAt, assumedWord, assumptionOf, AimFits, nodeOf, SoundRules, rulesIn, FlowAt, breakingOf, isTrapOf}
-use Rattle.node.specs.Code.{Turn, refuse, check, judged, nodeTurn, turnAt, leafFields, runFields, stateFields, ruleFields, setFields}
+use Rattle.node.specs.Code.{Turn, refuse, check, judged, nodeTurn, turnAt, leafFields, runFields, stateFields, ruleFields, setFields, remainderFields}
 use Rattle.node.specs.Code.{outputGone, NamesRule, disabledChildren, NamesSet, partyIf, setGround, setChild}
 use Rattle.node.specs.declared.Aim.{Aim}
 use Rattle.node.specs.declared.Flow.{Flow}
@@ -364,9 +367,15 @@ party-lt true k m l h = h
 party-lt false k m l h = l
 
 module _ (z : Sizes) (n : Node) (F : Facts) (x : Turn) where
-  -- Kind 0.
-  pub leaf-turn : (P : Protocol) (w : ℕ → ℕ → ℕ) (b t : Bool) → t ≡ leafCloses P F w → x ≡ judged b t [] → x ≡ judged b (leafCloses P F w) []
+  -- Kinds 0 and 7.
+  pub leaf-turn : (P : Protocol) (w : ℕ → ℕ → ℕ) (b t : Bool) → t ≡ closesBy P BySums F w → x ≡ judged b t [] → x ≡ judged b (leafCloses P F w) []
+  unfolding closesBy
   leaf-turn P w b t e h = h ∙ ap (λ (g : Bool). judged b g []) e
+
+  pub remainder-turn : (P : Protocol) (m : ℕ) (w : ℕ → ℕ → ℕ) (b t : Bool) → t ≡ closesBy P (ByRemainders m) F w → x ≡ judged b t []
+      → x ≡ judged b (remainderCloses P m F w) []
+  unfolding closesBy
+  remainder-turn P m w b t e h = h ∙ ap (λ (g : Bool). judged b g []) e
 
   -- Kind 1.
   pub output-turn : (states : List ℕ) (a : Aim) (w v : ℕ) (t : Bool) → z .states ≤ 64 → AimFits z states a → w ≡ assumedWord a (n .party)
@@ -509,19 +518,26 @@ module _ (z : Sizes) (states rules nodes leaves : List ℕ) (aim : Aim) (F : Fac
   unfolding byKind isRun isSet ground children refusalNumber setGround setChild partyIf isTrapOf
   kind-siphon k d = by-kind 6 k (d ∙ turn-checked P H F _ (siphon (n .party) (n .set)) refl)
 
-  pub kind-unknown : (n .kind ≡ 0 → ⊥) → (n .kind ≡ 1 → ⊥) → (n .kind ≡ 2 → ⊥) → (n .kind ≡ 3 → ⊥) → (n .kind ≡ 4 → ⊥) → (n .kind ≡ 5 → ⊥)
-      → (n .kind ≡ 6 → ⊥) → x ≡ judged false true [] → x ≡ here
-  unfolding byKind nodeTurn ground refusalNumber check
-  kind-unknown k0 k1 k2 k3 k4 k5 k6 d = by-kind (n .kind) refl (d ∙ ap (nodeTurn P H F) (sym (past (n .kind) k0 k1 k2 k3 k4 k5 k6)))
-    where
-      past : (k : ℕ) → (k ≡ 0 → ⊥) → (k ≡ 1 → ⊥) → (k ≡ 2 → ⊥) → (k ≡ 3 → ⊥) → (k ≡ 4 → ⊥) → (k ≡ 5 → ⊥) → (k ≡ 6 → ⊥) → of-kind n k ≡ bad
-      past zero z0 z1 z2 z3 z4 z5 z6 = absurd (z0 refl)
-      past (suc zero) z0 z1 z2 z3 z4 z5 z6 = absurd (z1 refl)
-      past (suc (suc zero)) z0 z1 z2 z3 z4 z5 z6 = absurd (z2 refl)
-      past (suc (suc (suc zero))) z0 z1 z2 z3 z4 z5 z6 = absurd (z3 refl)
-      past (suc (suc (suc (suc zero)))) z0 z1 z2 z3 z4 z5 z6 = absurd (z4 refl)
-      past (suc (suc (suc (suc (suc zero))))) z0 z1 z2 z3 z4 z5 z6 = absurd (z5 refl)
-      past (suc (suc (suc (suc (suc (suc zero)))))) z0 z1 z2 z3 z4 z5 z6 = absurd (z6 refl)
-      past (suc (suc (suc (suc (suc (suc (suc k))))))) z0 z1 z2 z3 z4 z5 z6 = refl
+  pub kind-remainder : n .kind ≡ 7
+      → x ≡ judged (remainderFields z n) (remainderCloses P (n .set) F (weightsOf z leaves (n .argument))) [] → x ≡ here
+  unfolding byKind isModulus ground children refusalNumber
+  kind-remainder k d = by-kind 7 k (d ∙ turn-checked P H F _ (remainder (n .argument) (n .set)) refl)
 
-pub ruleset kinds = (kind-leaf, kind-output, kind-contradiction, kind-disabled, kind-split, kind-trap, kind-siphon)
+  pub kind-unknown : (n .kind ≡ 0 → ⊥) → (n .kind ≡ 1 → ⊥) → (n .kind ≡ 2 → ⊥) → (n .kind ≡ 3 → ⊥) → (n .kind ≡ 4 → ⊥) → (n .kind ≡ 5 → ⊥)
+      → (n .kind ≡ 6 → ⊥) → (n .kind ≡ 7 → ⊥) → x ≡ judged false true [] → x ≡ here
+  unfolding byKind nodeTurn ground refusalNumber check
+  kind-unknown k0 k1 k2 k3 k4 k5 k6 k7 d = by-kind (n .kind) refl (d ∙ ap (nodeTurn P H F) (sym (past (n .kind) k0 k1 k2 k3 k4 k5 k6 k7)))
+    where
+      past : (k : ℕ) → (k ≡ 0 → ⊥) → (k ≡ 1 → ⊥) → (k ≡ 2 → ⊥) → (k ≡ 3 → ⊥) → (k ≡ 4 → ⊥) → (k ≡ 5 → ⊥) → (k ≡ 6 → ⊥) → (k ≡ 7 → ⊥)
+          → of-kind n k ≡ bad
+      past zero z0 z1 z2 z3 z4 z5 z6 z7 = absurd (z0 refl)
+      past (suc zero) z0 z1 z2 z3 z4 z5 z6 z7 = absurd (z1 refl)
+      past (suc (suc zero)) z0 z1 z2 z3 z4 z5 z6 z7 = absurd (z2 refl)
+      past (suc (suc (suc zero))) z0 z1 z2 z3 z4 z5 z6 z7 = absurd (z3 refl)
+      past (suc (suc (suc (suc zero)))) z0 z1 z2 z3 z4 z5 z6 z7 = absurd (z4 refl)
+      past (suc (suc (suc (suc (suc zero))))) z0 z1 z2 z3 z4 z5 z6 z7 = absurd (z5 refl)
+      past (suc (suc (suc (suc (suc (suc zero)))))) z0 z1 z2 z3 z4 z5 z6 z7 = absurd (z6 refl)
+      past (suc (suc (suc (suc (suc (suc (suc zero))))))) z0 z1 z2 z3 z4 z5 z6 z7 = absurd (z7 refl)
+      past (suc (suc (suc (suc (suc (suc (suc (suc k)))))))) z0 z1 z2 z3 z4 z5 z6 z7 = refl
+
+pub ruleset kinds = (kind-leaf, kind-output, kind-contradiction, kind-disabled, kind-split, kind-trap, kind-siphon, kind-remainder)

@@ -1,7 +1,7 @@
 -- Tests taken apart and put together. Assumes nothing.
 use mathlib.Core.Path.{_≡_, refl, sym, _∙_}
 use mathlib.Core.Bool.{Bool, true, false, not, _&&_, _||_, true≢false, false≢true, Bool·beq}
-use mathlib.Core.Logic.{_⊎_, inl, inr}
+use mathlib.Core.Logic.{_↔_, _⊎_, inl, inr}
 use Rattle.theory.specs.Bool.{imp}
 
 -- A proof by the two values of a test.
@@ -25,6 +25,20 @@ and-intro false b e f = e
 pub and-elim : (a b : Bool) → a && b ≡ true → (a ≡ true) × (b ≡ true)
 and-elim true b h = (refl, h)
 and-elim false b h = absurd (false≢true h)
+
+-- Six tests in a row.
+pub all-six : (a b c d e f : Bool) → (a && b && c && d && e && f ≡ true)
+    ↔ ((a ≡ true) × (b ≡ true) × (c ≡ true) × (d ≡ true) × (e ≡ true) × (f ≡ true))
+all-six a b c d e f = (
+  λ h.
+      let t = and-elim (a && b && c && d && e) f h in
+      let u = and-elim (a && b && c && d) e (t .0) in
+      let v = and-elim (a && b && c) d (u .0) in
+      let w = and-elim (a && b) c (v .0) in
+      let x = and-elim a b (w .0) in
+      (x .0, x .1, w .1, v .1, u .1, t .1),
+  λ t. and-intro _ _ (and-intro _ _ (and-intro _ _ (and-intro _ _ (and-intro _ _ (t .0) (t .1)) (t .2)) (t .3)) (t .4)) (t .5),
+)
 
 pub and-fails : (a b : Bool) → a && b ≡ false → (a ≡ false) ⊎ (b ≡ false)
 and-fails true b h = inr h

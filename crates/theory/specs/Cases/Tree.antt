@@ -129,12 +129,26 @@ pub kind-6 : (lone 6 1 0 1 ≡ refused 13 0)
 unfolding answerWith
 kind-6 = (refl, refl, refl, refl, refl, refl, refl, refl)
 
+-- Kind 7: party 0, argument a leaf, set a modulus of 2 to 1,000. No weight differs from 0, so no modulus closes.
+pub kind-7 : (lone 7 0 0 2 ≡ refused 13 0)
+    × (lone 7 0 3 1000 ≡ refused 13 0)
+    × (lone 7 0 0 0 ≡ refused 12 0)
+    × (lone 7 0 0 1 ≡ refused 12 0)
+    × (lone 7 0 0 1001 ≡ refused 12 0)
+    × (lone 7 0 0 4294967298 ≡ refused 12 0)
+    × (lone 7 0 4 2 ≡ refused 12 0)
+    × (lone 7 1 0 2 ≡ refused 12 0)
+    × (lone 7 2 0 2 ≡ refused 12 0)
+unfolding answerWith
+kind-7 = (refl, refl, refl, refl, refl, refl, refl, refl, refl)
+
 -- There are no other kinds.
-pub kind-7 : (lone 7 0 0 0 ≡ refused 12 0)
-    × (lone 7 1 0 1 ≡ refused 12 0)
+pub kinds-end : (lone 8 0 0 0 ≡ refused 12 0)
+    × (lone 8 0 0 2 ≡ refused 12 0)
+    × (lone 8 1 0 1 ≡ refused 12 0)
     × (lone 255 1 0 0 ≡ refused 12 0)
 unfolding answerWith
-kind-7 = (refl, refl, refl)
+kinds-end = (refl, refl, refl, refl)
 
 -- One sort of the facts of each child.
 abbrev each : (Facts → ℕ → ℕ → Bool) → List Facts → List (ℕ → ℕ → Bool)
@@ -187,7 +201,7 @@ one-verdict = refl
 -- ---- Depth
 
 -- No rules. State 1 is no input, so its set is absent at the start, and a siphon at every node.
-abbrev settled : Protocol
+abbrev pub settled : Protocol
 settled = record {
   states = 2;
   rules = 0;
@@ -212,7 +226,7 @@ pub depths : (answer settled (siphons 40 39) ≡ next 40)
 unfolding answerWith
 depths = (refl, refl, refl, refl, refl)
 
--- ---- All kinds
+-- ---- Kinds 0 to 6 in one tree
 
 -- The siphon of state 2 leaves rule 1 unused, in run k (node 0) and in run 2. Where state 1 is absent at the start it is
 -- absent at end 2 (nodes 3 and 4). Where it is present there, rule 0 is not enabled at end 1: state 0 is absent there
@@ -242,14 +256,14 @@ oneDown = rows ([] ∷ (10000 ∷ 9999 ∷ 10000 ∷ []) ∷ (10000 ∷ 10000 �
 
 -- Both are accepted. Leaf 0 does not close, and there is no leaf 2. Where rule 1 is unused in run 2 alone, the set of
 -- state 1 is no trap in run 1, and leaf 1 does not close: rule 1 takes from state 1 and puts none back.
-pub all-kinds : (answer catalyst (byTrap 1) ≡ next 9)
+pub kinds-together : (answer catalyst (byTrap 1) ≡ next 9)
     × (answerWith oneDown catalyst (byLeaf 1 1) ≡ next 8)
     × (answerWith oneDown catalyst (byLeaf 1 0) ≡ refused 13 7)
     × (answerWith oneDown catalyst (byLeaf 1 2) ≡ refused 12 7)
     × (answer catalyst (byTrap 2) ≡ refused 13 7)
     × (answerWith oneDown catalyst (byLeaf 2 1) ≡ refused 13 7)
 unfolding answerWith
-all-kinds = (refl, refl, refl, refl, refl, refl)
+kinds-together = (refl, refl, refl, refl, refl, refl)
 
 -- Rule 1 puts into state 0 and does not take from it. The set of state 0 is a siphon in run j where it is absent at the
 -- start and rule 1 is unused in run j, as the siphon of state 2 says of run k. The tree then goes on to node 4, which it
@@ -355,7 +369,7 @@ unfolding closes
 leaves-open = (refl, refl)
 
 -- A leaf of two states that has 0 but for the weight w of state s at end k.
-abbrev oneWeight : ℕ → ℕ → ℕ → ℕ → ℕ → ℕ
+abbrev pub oneWeight : ℕ → ℕ → ℕ → ℕ → ℕ → ℕ
 oneWeight k s w j t = cond (eqb j k && eqb t s) w 10000
 
 -- In a protocol of no rules whose state 0 alone is an input: weight 1 of a state present at end 1 closes, of one not

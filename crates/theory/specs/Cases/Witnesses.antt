@@ -18,6 +18,7 @@ use Rattle.theory.specs.Cases.Tables.{formed, partitioned}
 use Rattle.theory.specs.Tree.{takes, puts}
 use Rattle.theory.specs.Tree.Traps.{follows-none}
 use Rattle.theory.specs.Cases.Tree.{tree, noWeights, leafWeights, answerWith, cast, trees, outcomeTree, one-verdict}
+use Rattle.theory.specs.Cases.Remainder.{parity, parityLayers, parityWeights, parityTree, oddOnes, parity-tree}
 use Rattle.theory.specs.Potential.{Potential}
 use Rattle.theory.specs.Claims.{Certified}
 use Rattle.theory.specs.Unfold.{meeting, laddering, walking}
@@ -56,6 +57,23 @@ outcomes-certified = record {
   tree = outcomeTree;
   leafWeight = leafWeights noWeights;
   closed = one-verdict;
+}
+
+-- And parity, by a tree with a node of kind 7.
+pub parity-certified : Certified parity
+unfolding answerWith laddering
+parity-certified = record {
+  layers = parityLayers;
+  weight = parityWeights;
+  ladder = record {
+    formed = formed parity refl refl;
+    partition = partitioned parity parityLayers refl refl;
+    lowering-passes = refl;
+    handover-passes = refl;
+  };
+  tree = parityTree 0 2;
+  leafWeight = leafWeights oddOnes;
+  closed = parity-tree .0;
 }
 
 -- ---- Potential reachability

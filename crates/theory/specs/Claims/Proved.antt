@@ -10,7 +10,7 @@ use lib.ListN.{length}
 use lib.Dec.{eqb}
 use Rattle.theory.specs.Bool.{imp}
 use Rattle.theory.specs.Bool.Laws.{not-both, is-true, and-elim}
-use Rattle.theory.specs.Protocol.{Protocol, WellFormed, count, size, terminal, tried, Shows, Start, fires, after, meetings}
+use Rattle.theory.specs.Protocol.{Protocol, WellFormed, count, size, terminal, tried, Shows, fires, after, meetings}
 use Rattle.theory.specs.Protocol.Laws.{enabled-pre, pre-enabled, count-fire, fire-moves, terminal-off, not-terminal-on, shows-is, output-is}
 use Rattle.theory.specs.Protocol.Laws.{mixed-is, start-test}
 use Rattle.theory.specs.Protocol.Small.{small-after, small-shows}
@@ -20,6 +20,7 @@ use Rattle.theory.specs.Ladder.Handover.{handoverAt-fails, handoverAt-ex
 use Rattle.theory.specs.Ladder.Rank.{rank-bound, rank-zero}
 use Rattle.theory.specs.Ladder.Lists.{layered-append, quiet-layered, quiet-alone, meetings-alone, rank-after, layered-rests}
 use Rattle.theory.specs.Leaf.Signed.{leaf-is}
+use Rattle.theory.specs.Remainder.Signed.{remainder-is}
 use Rattle.theory.specs.Tree.{takes, puts, isTrap, isSiphon}
 use Rattle.theory.specs.Tree.Traps.{takes-is, puts-is, follows-is}
 use Rattle.theory.specs.Tree.Consensus.{consensus}
@@ -288,6 +289,7 @@ theorems P = record {
   tree-stands = tree-stands P;
   tree-fails = tree-fails P;
   leaf-is = leaf-is P;
+  remainder-is = remainder-is P;
   start-exact = start-test P;
   handover-exact = handover-is-exact P;
   calls-make = calls-make P;

@@ -9,6 +9,7 @@ use Rattle.theory.specs.Protocol.{Protocol, WellFormed, size, Start, sta
 use Rattle.theory.specs.Ladder.{Layers, OrderedPartition, handoverAt, handover, Broken, layered, Alone, Laddered, spread}
 use Rattle.theory.specs.Facts.{Facts}
 use Rattle.theory.specs.Leaf.{leafCloses, signed, LeafRule}
+use Rattle.theory.specs.Remainder.{remainderCloses, RemainderRule}
 use Rattle.theory.specs.Tree.{Tree, Assumption, next, refused, treeAnswer}
 use Rattle.theory.specs.Subtree.{TreeStands, TreeFails}
 use Rattle.theory.specs.Potential.{Potential}
@@ -43,12 +44,14 @@ pub record OfLadder (P : Protocol) (L : Layers) (w : ℕ → ℕ → ℕ) : Type
   pub calls-rest : (c : List ℕ) → length c ≡ P .states → CallsRest P L w c (reply P L) (lastCounts P L c) (reported P L c)
 
 pub record Theorems (P : Protocol) : Type 0 where
-  -- The definitions are the paper's and document 01's; the leaf rule on biased weights is that on signed ones.
+  -- The definitions are the paper's, document 01's and, for kind 7, document 02's; the leaf rule and the remainder rule on
+  -- biased weights are those on signed ones.
   pub as-published : WellFormed P → (c : List ℕ) → length c ≡ P .states → AsPublished P c
   pub layers-are : WellFormed P → {L : Layers} → OrderedPartition P L → (w : ℕ → ℕ → ℕ) (c : List ℕ) → LayersAre P L w c
   pub tree-stands : (H : Assumption) (T : Tree) → (treeAnswer P H T ≡ next (T .nodes)) ↔ TreeStands P H T
   pub tree-fails : (H : Assumption) (T : Tree) (n k : ℕ) → (treeAnswer P H T ≡ refused n k) ↔ TreeFails P H T n k
   pub leaf-is : (F : Facts) (w : ℕ → ℕ → ℕ) → (leafCloses P F w ≡ true) ↔ LeafRule P F (λ k s. signed (w k s))
+  pub remainder-is : (m : ℕ) (F : Facts) (w : ℕ → ℕ → ℕ) → (remainderCloses P m F w ≡ true) ↔ RemainderRule P F (λ k s. signed (w k s)) m
   pub start-exact : StartExact P
   pub handover-exact : WellFormed P → (L : Layers) → HandoverExact P L
   -- Calls make a list of rule numbers, or are all refused.

@@ -36,7 +36,7 @@ under a b (suc zero) l h = omega arith
 under a b (suc (suc c)) l h = absurd (omega arith)
 
 module _ (P : Protocol) (good : WellFormed P) (σ : Runs P) where
-  even-at : (b k : ℕ) → weigh (λ _. b) (at P σ k) ≡ weigh (λ _. b) (σ .start)
+  pub even-at : (b k : ℕ) → weigh (λ _. b) (at P σ k) ≡ weigh (λ _. b) (σ .start)
   even-at b k = even-kept P good (σ .starts .sized) (σ .run k .potential) b
 
 module _ (P : Protocol) (good : WellFormed P) (σ : Runs P) (F : Facts) (h : Holds P F σ) where

@@ -36,7 +36,7 @@ parts-same (pos a) (negsuc b) e f = absurd (omega arith)
 parts-same (negsuc a) (pos b) e f = absurd (omega arith)
 parts-same (negsuc a) (negsuc b) e f = let g : a ≡ b = omega arith in ap negsuc g
 
-add-parts : (a b : ℤ) → plus (a +ℤ b) + (minus a + minus b) ≡ minus (a +ℤ b) + (plus a + plus b)
+pub add-parts : (a b : ℤ) → plus (a +ℤ b) + (minus a + minus b) ≡ minus (a +ℤ b) + (plus a + plus b)
 add-parts (pos a) (pos b) = omega arith
 add-parts (pos a) (negsuc b) = omega (arith, sub-parts a (suc b))
 add-parts (negsuc a) (pos b) = omega (arith, sub-parts b (suc a))
@@ -54,7 +54,7 @@ lt-parts (pos a) (negsuc b) = (λ h. absurd (h .lt), λ h. absurd (omega arith))
 lt-parts (negsuc a) (pos b) = (λ h. omega arith, λ h. record { lt = tt })
 lt-parts (negsuc a) (negsuc b) = (λ h. omega (arith, ltb→lt b a (h .lt)), λ h. record { lt = lt→ltb b a (omega arith) })
 
-sum-parts : (n : ℕ) (f : ℕ → ℤ) → plus (signedSum n f) + sumBelow n (λ s. minus (f s)) ≡ minus (signedSum n f) + sumBelow n (λ s. plus (f s))
+pub sum-parts : (n : ℕ) (f : ℕ → ℤ) → plus (signedSum n f) + sumBelow n (λ s. minus (f s)) ≡ minus (signedSum n f) + sumBelow n (λ s. plus (f s))
 unfolding signedSum sumBelow
 sum-parts zero f = refl
 sum-parts (suc n) f = omega (arith, sum-parts n f, add-parts (signedSum n f) (f n))
@@ -64,7 +64,7 @@ sum-parts (suc n) f = omega (arith, sum-parts n f, add-parts (signedSum n f) (f 
 pub weight-parts : (w : ℕ) → (plus (signed w) ≡ w - 10000) × (minus (signed w) ≡ 10000 - w)
 weight-parts w = sub-parts w 10000
 
-pair-parts : (v w : ℕ) → plus (signed v +ℤ signed w) + 20000 ≡ minus (signed v +ℤ signed w) + (v + w)
+pub pair-parts : (v w : ℕ) → plus (signed v +ℤ signed w) + 20000 ≡ minus (signed v +ℤ signed w) + (v + w)
 pair-parts v w = omega (arith, add-parts (signed v) (signed w), weight-parts v, weight-parts w)
 
 -- Pairs are compared as their biased weights are.

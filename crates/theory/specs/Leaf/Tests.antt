@@ -6,14 +6,14 @@ use Prim.Native.Nat.{ℕ, zero, suc, _+_, _≤_, _<_}
 use native.Mathlib.Omega.{arith}
 use lib.Dec.{leb, ltb}
 use borrow.Author.Tests.{ltb-true, lt-ltb, leb-true, leb-false, le-leb, lt-leb}
-use Rattle.theory.specs.Bool.Laws.{by-test, and-intro, and-elim, or-left, or-right, or-resolve}
+use Rattle.theory.specs.Bool.Laws.{by-test, or-left, or-right, or-resolve, all-six}
 use Rattle.theory.specs.Below.Laws.{all-unless}
 use Rattle.theory.specs.Protocol.{Protocol}
 use Rattle.theory.specs.Facts.{Facts}
 use Rattle.theory.specs.Leaf.{total, nonIncreasing, startFits, spare, endFits, surplus, shortfall, leafCloses}
 
 -- What holds at 1 and at 2 holds at each end.
-at-ends : (Q : ℕ → Type 0) → Q 1 → Q 2 → (k : ℕ) → 1 ≤ k → k ≤ 2 → Q k
+pub at-ends : (Q : ℕ → Type 0) → Q 1 → Q 2 → (k : ℕ) → 1 ≤ k → k ≤ 2 → Q k
 at-ends Q x y zero l m = absurd (omega arith)
 at-ends Q x y (suc zero) l m = x
 at-ends Q x y (suc (suc zero)) l m = y
@@ -66,24 +66,28 @@ module _ (P : Protocol) (F : Facts) where
 
   pub leaf-closes : (w : ℕ → ℕ → ℕ) → (leafCloses P F w ≡ true) ↔ Closes w
   unfolding leafCloses
-  leaf-closes w = (
-    λ e.
-        let sums = and-elim _ (ltb (shortfalls w) (additions w)) e in
-        let end2 = and-elim _ (endFits P F 2 10000 (w 2)) (sums .0) in
-        let end1 = and-elim _ (endFits P F 1 10000 (w 1)) (end2 .0) in
-        let start = and-elim _ (startFits P F 20000 (λ s. w 1 s + w 2 s)) (end1 .0) in
-        let runs = and-elim (nonIncreasing P (F .unused 1) (w 1)) (nonIncreasing P (F .unused 2) (w 2)) (start .0) in
-        record {
-          rules = at-ends (λ k. Falls k (w k)) (falls 1 (w 1) .0 (runs .0)) (falls 2 (w 2) .0 (runs .1));
-          start = at-most 20000 (λ s. w 1 s + w 2 s) .0 (start .1);
-          ends = at-ends (λ k. FewBelow 10000 k (w k)) (few-below 10000 1 (w 1) .0 (end1 .1)) (few-below 10000 2 (w 2) .0 (end2 .1));
-          sums = ltb-true (shortfalls w) (additions w) (sums .1);
-        },
-    λ t.
-        let run1 = falls 1 (w 1) .1 (t .rules 1 (omega arith) (omega arith)) in
-        let run2 = falls 2 (w 2) .1 (t .rules 2 (omega arith) (omega arith)) in
-        let start = at-most 20000 (λ s. w 1 s + w 2 s) .1 (t .start) in
-        let end1 = few-below 10000 1 (w 1) .1 (t .ends 1 (omega arith) (omega arith)) in
-        let end2 = few-below 10000 2 (w 2) .1 (t .ends 2 (omega arith) (omega arith)) in
-        and-intro _ _ (and-intro _ _ (and-intro _ _ (and-intro _ _ (and-intro _ _ run1 run2) start) end1) end2) (lt-ltb (shortfalls w) (additions w) (t .sums)),
-  )
+  leaf-closes w =
+      let six = all-six
+      (nonIncreasing P (F .unused 1) (w 1))
+      (nonIncreasing P (F .unused 2) (w 2))
+      (startFits P F 20000 (λ s. w 1 s + w 2 s))
+      (endFits P F 1 10000 (w 1))
+      (endFits P F 2 10000 (w 2))
+      (ltb (shortfalls w) (additions w)) in (
+        λ e.
+            let t = six .0 e in
+            record {
+              rules = at-ends (λ k. Falls k (w k)) (falls 1 (w 1) .0 (t .0)) (falls 2 (w 2) .0 (t .1));
+              start = at-most 20000 (λ s. w 1 s + w 2 s) .0 (t .2);
+              ends = at-ends (λ k. FewBelow 10000 k (w k)) (few-below 10000 1 (w 1) .0 (t .3)) (few-below 10000 2 (w 2) .0 (t .4));
+              sums = ltb-true (shortfalls w) (additions w) (t .5);
+            },
+        λ t. six .1 (
+          falls 1 (w 1) .1 (t .rules 1 (omega arith) (omega arith)),
+          falls 2 (w 2) .1 (t .rules 2 (omega arith) (omega arith)),
+          at-most 20000 (λ s. w 1 s + w 2 s) .1 (t .start),
+          few-below 10000 1 (w 1) .1 (t .ends 1 (omega arith) (omega arith)),
+          few-below 10000 2 (w 2) .1 (t .ends 2 (omega arith) (omega arith)),
+          lt-ltb (shortfalls w) (additions w) (t .sums),
+        ),
+      )

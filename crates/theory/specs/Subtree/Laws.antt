@@ -1,17 +1,17 @@
 -- The walk accepts just the trees that stand, and refuses just as a tree fails. Assumes nothing.
 use mathlib.Core.Path.{_≡_, refl, sym, ap, _∙_, subst}
-use mathlib.Core.Bool.{Bool, true, false, true≢false}
+use mathlib.Core.Bool.{true, false}
 use mathlib.Core.List.{List, [], _∷_}
 use mathlib.Core.Logic.{_↔_, _⊎_, inl, inr, ⊎-elim, by-cases}
 use Prim.Native.Nat.{ℕ, zero, suc, _≤_, _<_}
 use native.Mathlib.Decide.{decLt}
 use native.Mathlib.Omega.{arith}
-use lib.Dec.{ltb, eqb}
-use borrow.Author.Tests.{ltb-true, ltb-false, lt-ltb, le-ltb, eqb-true, eqb-false, eq-eqb, ne-eqb}
+use lib.Dec.{eqb}
+use borrow.Author.Tests.{lt-ltb, le-ltb, eqb-true, eqb-false, eq-eqb, ne-eqb}
 use Rattle.theory.specs.Bool.Laws.{by-test, not-both}
 use Rattle.theory.specs.Protocol.{Protocol}
 use Rattle.theory.specs.Facts.{Facts, fresh}
-use Rattle.theory.specs.Tree.{Tree, Assumption, Node, leaf, outputAbsent, contradiction, disabled, caseSplit, trap, siphon, bad}
+use Rattle.theory.specs.Tree.{Tree, Assumption, Node, leaf, outputAbsent, contradiction, disabled, caseSplit, trap, siphon, remainder, bad}
 use Rattle.theory.specs.Tree.{Walked, next, refused, refusalNumber, forest, children, ground, node, treeAt, treeAnswer}
 use Rattle.theory.specs.Tree.Laws.{by-answer, refused-not-next}
 use Rattle.theory.specs.Subtree.{InOrder, InOne, Stands, Subtree, Wrong, Fails, TreeStands, TreeFails}
@@ -69,6 +69,7 @@ by-fields (disabled k r) f g = g (λ e. let z : _≡_ {A = ℕ} 0 1 = cc in omeg
 by-fields (caseSplit k s) f g = g (λ e. let z : _≡_ {A = ℕ} 0 1 = cc in omega arith) refl
 by-fields (trap k w) f g = g (λ e. let z : _≡_ {A = ℕ} 0 1 = cc in omega arith) refl
 by-fields (siphon k w) f g = g (λ e. let z : _≡_ {A = ℕ} 0 1 = cc in omega arith) refl
+by-fields (remainder l m) f g = g (λ e. let z : _≡_ {A = ℕ} 0 1 = cc in omega arith) refl
 by-fields bad f g = f refl refl
 
 module _ (P : Protocol) (H : Assumption) (T : Tree) where

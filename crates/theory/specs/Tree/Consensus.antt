@@ -12,8 +12,9 @@ use Rattle.theory.specs.Weigh.Laws.{weigh-some}
 use Rattle.theory.specs.Protocol.{Protocol, WellFormed, count, size, terminal, Shows, Start, after}
 use Rattle.theory.specs.Facts.Laws.{Runs, at}
 use Rattle.theory.specs.Leaf.Laws.{leaf-refutes}
+use Rattle.theory.specs.Remainder.Laws.{remainder-refutes}
 use Rattle.theory.specs.Tree.{Tree, next, disagreement, isRun, treeAnswer}
-use Rattle.theory.specs.Tree.Laws.{Assumed, tree-refutes}
+use Rattle.theory.specs.Tree.Laws.{Assumed, LeavesRefute, tree-refutes}
 use Rattle.theory.specs.Potential.Runs.{Reach}
 use Rattle.theory.specs.Potential.Laws.{even-kept}
 use Rattle.theory.specs.Potential.Reached.{reach}
@@ -28,10 +29,17 @@ module _ (P : Protocol) (good : WellFormed P) (weights : ℕ → ℕ → ℕ →
     opposed : (x y : Reach P c) → terminal P (x .end) ≡ true → terminal P (y .end) ≡ true
         → (s t : ℕ) → 0 < count (x .end) s → 0 < count (y .end) t → P .output s ≡ false → P .output t ≡ true → ⊥
     unfolding runs disagreement isRun after
-    opposed x y f g s t i k u v = tree-refutes P good σ (disagreement P weights) assumed T (λ F l e h. leaf-refutes P good σ F h (weights l) e) j accepted
+    opposed x y f g s t i k u v = tree-refutes P good σ (disagreement P weights) assumed T leaves j accepted
       where
         σ : Runs P
         σ = record { start = c; run = runs x y; starts = start; still = refl }
+
+        leaves : LeavesRefute P (disagreement P weights) σ
+        leaves =
+            record {
+              by-sum = λ F l e h. leaf-refutes P good σ F h (weights l) e;
+              by-remainder = λ m F l e h. remainder-refutes P good m σ F h (weights l) e;
+            }
 
         second : (k : ℕ) → isRun P (disagreement P weights) (suc (suc k)) ≡ true → eqb (suc (suc k)) 2 ≡ true
         second k e = eq-eqb (suc (suc k)) 2 (omega (arith, leb-true (suc (suc k)) 2 (and-elim (leb 1 (suc (suc k))) (leb (suc (suc k)) 2) e .1)))

@@ -18,7 +18,7 @@ use Rattle.theory.specs.Protocol.{Protocol, WellFormed, count, terminal,
 use Rattle.theory.specs.Protocol.Laws.{disabled-same, disabled-other, terminal-off}
 use Rattle.theory.specs.Facts.{Facts, withAbsent, withPresent, withUnused, fresh}
 use Rattle.theory.specs.Facts.Laws.{Runs, at, length-at, Holds, fresh-holds, holds-absent, holds-present, holds-at-most-one, holds-unused}
-use Rattle.theory.specs.Tree.{Tree, Assumption, Node, leaf, outputAbsent, contradiction, disabled, caseSplit, trap, siphon, bad, Walked, next}
+use Rattle.theory.specs.Tree.{Tree, Assumption, Node, leaf, outputAbsent, contradiction, disabled, caseSplit, trap, siphon, remainder, bad, Walked, next}
 use Rattle.theory.specs.Tree.{refused, checked, forest, touches, isTrap, isSiphon, within, children, isRun, ground, byKind, node, treeAt}
 use Rattle.theory.specs.Tree.{treeAnswer}
 use Rattle.theory.specs.Potential.{countIn}
@@ -37,6 +37,11 @@ module _ (P : Protocol) where
     pub rests : (k : ℕ) → isRun P H k ≡ true → terminal P (at P σ k) ≡ true
     pub shows : (k : ℕ) → isRun P H k ≡ true → (s : ℕ) × (0 < count (at P σ k) s) × (P .output s ≡ H .assumed k)
 
+  -- The facts on which a leaf closes do not hold of these runs.
+  pub record LeavesRefute (H : Assumption) (σ : Runs P) : Type 0 where
+    pub by-sum : (F : Facts) (l : ℕ) → H .closes F l ≡ true → Holds P F σ → ⊥
+    pub by-remainder : (m : ℕ) (F : Facts) (l : ℕ) → H .closesModulo m F l ≡ true → Holds P F σ → ⊥
+
   -- The facts of one member of the list hold.
   abbrev OneHolds : Runs P → List Facts → Type 0
   OneHolds σ [] = ⊥
@@ -52,6 +57,7 @@ module _ (P : Protocol) where
     Sane (caseSplit k s) = Unit {0}
     Sane (trap k w) = Unit {0}
     Sane (siphon k w) = Unit {0}
+    Sane (remainder l m) = Unit {0}
     Sane bad = Unit {0}
 
     infixr 25 _also_
@@ -79,6 +85,7 @@ module _ (P : Protocol) where
         also checked-sane _ (caseSplit k a) (λ _. tt)
         also checked-sane _ (trap k w) (λ _. tt)
         also checked-sane _ (siphon k w) (λ _. tt)
+        also checked-sane _ (remainder a w) (λ _. tt)
         also end
 
     node-sane : (T : Tree) (i : ℕ) → Sane (node P H T i)
@@ -147,15 +154,16 @@ module _ (P : Protocol) where
           (disabled-other P (at P σ k) r e off)))
 
       -- A node whose ground holds has a child whose facts hold.
-      node-holds : ((l : ℕ) → H .closes F l ≡ true → ⊥) → (n : Node) → Sane H n → ground P H F n ≡ true → OneHolds σ (children P F n)
+      node-holds : LeavesRefute H σ → (n : Node) → Sane H n → ground P H F n ≡ true → OneHolds σ (children P F n)
       unfolding ground children
-      node-holds closed (leaf l) s e = closed l e
+      node-holds closed (leaf l) s e = closed .by-sum F l e h
       node-holds closed (outputAbsent k) s e = outputAbsent-holds k s e
       node-holds closed (contradiction k t) s e = contradiction-holds k t e
       node-holds closed (disabled k r) s e = disabled-holds k r (s .0) (s .1)
       node-holds closed (caseSplit k t) s e = caseSplit-holds k t
       node-holds closed (trap k w) s e = inl (trap-holds k (member w) e)
       node-holds closed (siphon k w) s e = inl (siphon-holds k (member w) e)
+      node-holds closed (remainder l m) s e = closed .by-remainder m F l e h
       node-holds closed bad s e = not-both {b = false} e refl
 
   module _ (good : WellFormed P) (σ : Runs P) (H : Assumption) (a : Assumed H σ) where
@@ -168,7 +176,7 @@ module _ (P : Protocol) where
         (λ m q. ⊎-elim (λ h. ih F i m q h) (forest-refutes t ih Fs m j (rw (q, forest) at e)) o)
         (λ n m q. refused-not-next (rw (q, forest) at e))
 
-    module _ (T : Tree) (closed : (F : Facts) (l : ℕ) → H .closes F l ≡ true → Holds P F σ → ⊥) where
+    module _ (T : Tree) (closed : LeavesRefute H σ) where
       -- Where the walk accepts a subtree, its facts do not hold.
       refutes : (d : ℕ) (F : Facts) (i j : ℕ) → treeAt P H T d F i ≡ next j → Holds P F σ → ⊥
       unfolding treeAt
@@ -179,7 +187,7 @@ module _ (P : Protocol) where
           by-test (ground P H F (node P H T i))
           (λ g.
           forest-refutes (treeAt P H T d) (refutes d) (children P F (node P H T i)) (suc i) j (rw (q, g, treeAt) at e)
-          (node-holds good σ F h H a (λ l c. closed F l c h) (node P H T i) (node-sane H T i) g))
+          (node-holds good σ F h H a closed (node P H T i) (node-sane H T i) g))
           (λ g. refused-not-next (rw (q, g, treeAt) at e)))
           (λ q. refused-not-next (rw (q, treeAt) at e))
 

@@ -12,8 +12,7 @@ use Rattle.theory.specs.Bool.Laws.{by-test}
 use Rattle.theory.specs.Below.Scan.{at-end}
 use Rattle.theory.specs.Protocol.{Protocol}
 use Rattle.theory.specs.Facts.{Facts, fresh}
-use Rattle.theory.specs.Leaf.{leafCloses}
-use Rattle.theory.specs.Tree.{Tree, Assumption, Walked, next, refused, forest, ground, disagreement, node, treeAt, treeAnswer}
+use Rattle.theory.specs.Tree.{Tree, Assumption, Walked, next, refused, forest, ground, assuming, disagreement, node, treeAt, treeAnswer}
 use Rattle.theory.specs.Tree.{setSize, widestBelow, widest}
 use Rattle.bits.specs.Code.{fullOf, amongOf, withoutOf}
 use Rattle.format.specs.Format.{isInput, isOutput, nodeKind, nodeSet, protocolOf, treeOf, weightsOf}
@@ -182,7 +181,7 @@ answer-disagrees z states P weights T a x h e =
     e
     ∙ ap (λ (H : Assumption). treeAnswer P H T)
     (rw (h .runs, h .first, h .second)
-    (ap (λ (f : ℕ → Bool). record { runs = 2; assumed = f; closes = λ F l. leafCloses P F (weights l) }) (fun-ext (λ k. cond-self (eqb k 2)))))
+    (ap (λ (f : ℕ → Bool). assuming P 2 f weights) (fun-ext (λ k. cond-self (eqb k 2)))))
 
 -- ---- The widest set
 

@@ -1,0 +1,91 @@
+-- The rule by which a leaf closes, by sums or by remainders, in the parts in which the code goes through it.
+use mathlib.Core.Path.{_≡_}
+use mathlib.Core.Bool.{Bool, not, _&&_, _||_}
+use Prim.Native.Nat.{ℕ, _+_, _-_, _*_, _≤_}
+use lib.Dec.{leb}
+use Rattle.theory.specs.Bool.{member, bit}
+use Rattle.theory.specs.Protocol.{Protocol}
+use Rattle.theory.specs.Facts.{Facts}
+use Rattle.theory.specs.Leaf.{nonIncreasing, leafCloses}
+use Rattle.theory.specs.Remainder.{congruent, conserved, remainderCloses}
+use Rattle.share.specs.declared.Closing.{Closing}
+use Rattle.share.specs.declared.Closing.the-variants.{BySums, ByRemainders}
+use Rattle.share.specs.declared.Known.{Known}
+use Rattle.share.specs.declared.Share.{Share}
+pub mod Laws
+
+-- The leaf rule, or the remainder rule.
+unfoldable pub closesBy : Protocol → Closing → Facts → (ℕ → ℕ → ℕ) → Bool
+closesBy P BySums F w = leafCloses P F w
+closesBy P (ByRemainders m) F w = remainderCloses P m F w
+
+-- Its test of the rules.
+unfoldable pub keptBy : Protocol → Closing → (ℕ → Bool) → (ℕ → ℕ) → Bool
+keptBy P BySums unused w = nonIncreasing P unused w
+keptBy P (ByRemainders m) unused w = conserved P m unused w
+
+-- a is at most b; by remainders, they are the same modulo m.
+unfoldable pub relatesBy : Closing → ℕ → ℕ → Bool
+relatesBy BySums a b = leb a b
+relatesBy (ByRemainders m) a b = congruent m a b
+
+-- The words of w are the facts of the states at party k.
+pub record KnownAt (F : Facts) (k : ℕ) (w : Known) : Type 0 where
+  pub absent : member (w .absent) ≡ F .absent k
+  pub present : member (w .present) ≡ (λ s. not (F .absent k s) && F .present k s)
+  pub atMostOne : member (w .«at_most_one») ≡ F .atMostOne k
+
+-- The share of state s at the start, by sums, y being the sum of its weights, plus 20,000.
+unfoldable pub startShare : Known → ℕ → ℕ → Share
+startShare k s y =
+    record { allowed = member (k .absent) s || leb y 20000; gains = bit (member (k .present) s) * (20000 - y); losses = 0 }
+
+-- The share of state s at an end, by sums, y being its weight there, plus 10,000.
+unfoldable pub endShare : Known → ℕ → ℕ → Share
+endShare k s y =
+    record {
+      allowed = member (k .absent) s || (leb 10000 y || member (k .«at_most_one») s);
+      gains = bit (member (k .present) s) * (y - 10000);
+      losses = bit (not (member (k .absent) s)) * (10000 - y);
+    }
+
+-- The same by remainders.
+unfoldable pub startRemainder : ℕ → Known → ℕ → ℕ → Share
+startRemainder m k s y = record { allowed = member (k .absent) s || congruent m y 20000; gains = 0; losses = 0 }
+
+unfoldable pub endRemainder : ℕ → Known → ℕ → ℕ → Share
+endRemainder m k s y =
+    let one = member (k .present) s && member (k .«at_most_one») s in
+    record {
+      allowed = member (k .absent) s || (congruent m y 10000 || one);
+      gains = bit one * (y - 10000);
+      losses = bit one * (10000 - y);
+    }
+
+-- The share of state s at the start, and at an end.
+unfoldable pub startBy : Closing → Known → ℕ → ℕ → Share
+startBy BySums k s y = startShare k s y
+startBy (ByRemainders m) k s y = startRemainder m k s y
+
+unfoldable pub endBy : Closing → Known → ℕ → ℕ → Share
+endBy BySums k s y = endShare k s y
+endBy (ByRemainders m) k s y = endRemainder m k s y
+
+-- The shares at the start and at the two ends together.
+abbrev pub together : Share → Share → Share → Share
+together a b c =
+    record {
+      allowed = a .allowed && b .allowed && c .allowed;
+      gains = b .gains + c .gains + a .gains;
+      losses = b .losses + c .losses;
+    }
+
+-- The share of state s, by what is known at the start, at end 1 and at end 2; v and w are its weights at the ends, plus 10,000.
+unfoldable pub shareBy : Closing → Known → Known → Known → ℕ → ℕ → ℕ → Share
+shareBy by a b c s v w = together (startBy by a s (v + w)) (endBy by b s v) (endBy by c s w)
+
+-- r is the share x, and its numbers are at most m.
+pub record ShareIs (m : ℕ) (x r : Share) : Type 0 where
+  pub is : r ≡ x
+  pub gains-most : r .gains ≤ m
+  pub losses-most : r .losses ≤ m

@@ -1,0 +1,2 @@
+-- Code: what the functions answer. Laws stand below it in Laws.
+pub mod Code

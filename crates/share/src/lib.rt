@@ -1,0 +1,189 @@
+// The share of one state in the rule by which a leaf closes: the leaf rule goes by sums, the remainder rule by remainders. A
+// weight is read with 10,000 added, so all numbers are unsigned. Every function is total.
+ghost use mathlib.Core.Path.{_≡_};
+ghost use Prim.Native.Nat.{_+_, _-_, _*_};
+ghost use Rattle.theory.specs.Bool.{bit};
+ghost use Rattle.theory.specs.Remainder.{congruent};
+ghost use Rattle.format.specs.Code.{Value};
+ghost use Rattle.share.specs.Code.{relatesBy, startShare, endShare, startRemainder, endRemainder, startBy, endBy, shareBy, ShareIs};
+
+// How a leaf closes: by sums, or by remainders on division by a modulus.
+pub enum Closing {
+    BySums,
+    ByRemainders(u64),
+}
+
+// What the facts say of the states at one party. A state that is absent is not among those present.
+pub struct Known {
+    pub absent: u64,
+    pub present: u64,
+    pub at_most_one: u64,
+}
+
+// The share of one state.
+pub struct Share {
+    // Whether the facts allow its weights.
+    pub allowed: bool,
+    // What its weights add to the sum.
+    pub gains: u64,
+    // What they take off the sum.
+    pub losses: u64,
+}
+
+// How far a and b are apart.
+fn distance(a: u64, b: u64) -> u64
+    ensures { λ d. ⌜ d ≡ (a - b) + (b - a) ⌝ }
+{
+    if a < b {
+        return b - a;
+    }
+    a - b
+}
+
+// Whether a and b are the same modulo m. Modulo 0 a number is the same as itself alone.
+fn same_modulo(m: u64, a: u64, b: u64) -> bool
+    ensures { λ t. ⌜ t ≡ congruent m a b ⌝ }
+{
+    let apart = distance(a, b);
+    if apart == 0 {
+        return true;
+    }
+    if m == 0 {
+        return false;
+    }
+    apart % m == 0
+}
+
+// Whether a is at most b; by remainders, whether they are the same modulo m.
+pub fn relates(by: Closing, a: u64, b: u64) -> bool
+    ensures { λ t. ⌜ t ≡ relatesBy by a b ⌝ }
+{
+    match by {
+        Closing::BySums => a <= b,
+        Closing::ByRemainders(m) => same_modulo(m, a, b),
+    }
+}
+
+// How much a exceeds b, or 0; and 0 unless it counts.
+fn excess(counts: bool, a: u64, b: u64) -> u64
+    ensures { λ x. ⌜ Value (a + 1) (bit counts * (a - b)) x ⌝ }
+{
+    if !counts {
+        return 0;
+    }
+    if a < b {
+        return 0;
+    }
+    a - b
+}
+
+// The share of state i at the start, by sums: y is the sum of its two weights, plus 20,000.
+fn start_share(known: Known, i: usize, y: u64) -> Share
+    ensures { λ x. ⌜ ShareIs (20000 + y) (startShare known i y) x ⌝ }
+{
+    if 20000 < y {
+        return Share {
+            allowed: bits::has(known.absent, i),
+            gains: 0,
+            losses: 0,
+        };
+    }
+    Share {
+        allowed: true,
+        gains: excess(bits::has(known.present, i), 20000, y),
+        losses: 0,
+    }
+}
+
+// The share of state i at an end, by sums: y is its weight there, plus 10,000.
+fn end_share(known: Known, i: usize, y: u64) -> Share
+    ensures { λ x. ⌜ ShareIs (20000 + y) (endShare known i y) x ⌝ }
+{
+    if 10000 <= y {
+        return Share {
+            allowed: true,
+            gains: excess(bits::has(known.present, i), y, 10000),
+            losses: 0,
+        };
+    }
+    if bits::has(known.absent, i) {
+        return Share {
+            allowed: true,
+            gains: 0,
+            losses: 0,
+        };
+    }
+    Share {
+        allowed: bits::has(known.at_most_one, i),
+        gains: 0,
+        losses: 10000 - y,
+    }
+}
+
+// The share of state i at the start, by remainders.
+fn start_remainder(m: u64, known: Known, i: usize, y: u64) -> Share
+    ensures { λ x. ⌜ ShareIs (20000 + y) (startRemainder m known i y) x ⌝ }
+{
+    let vanishes = same_modulo(m, y, 20000);
+    Share {
+        allowed: bits::has(known.absent, i) | vanishes,
+        gains: 0,
+        losses: 0,
+    }
+}
+
+// The share of state i at an end, by remainders. It counts where the state is known to hold exactly one agent.
+fn end_remainder(m: u64, known: Known, i: usize, y: u64) -> Share
+    ensures { λ x. ⌜ ShareIs (20000 + y) (endRemainder m known i y) x ⌝ }
+{
+    let one = bits::has(known.present, i) & bits::has(known.at_most_one, i);
+    let vanishes = same_modulo(m, y, 10000);
+    Share {
+        allowed: bits::has(known.absent, i) | (vanishes | one),
+        gains: excess(one, y, 10000),
+        losses: excess(one, 10000, y),
+    }
+}
+
+// The share of state i at the start.
+fn start_by(by: Closing, known: Known, i: usize, y: u64) -> Share
+    ensures { λ x. ⌜ ShareIs (20000 + y) (startBy by known i y) x ⌝ }
+{
+    match by {
+        Closing::BySums => start_share(known, i, y),
+        Closing::ByRemainders(m) => start_remainder(m, known, i, y),
+    }
+}
+
+// The share of state i at an end.
+fn end_by(by: Closing, known: Known, i: usize, y: u64) -> Share
+    ensures { λ x. ⌜ ShareIs (20000 + y) (endBy by known i y) x ⌝ }
+{
+    match by {
+        Closing::BySums => end_share(known, i, y),
+        Closing::ByRemainders(m) => end_remainder(m, known, i, y),
+    }
+}
+
+// The share of state i at the start and at both ends, by what is known there; y1 and y2 are its weights at the ends, plus
+// 10,000.
+pub fn share_by(
+    by: Closing,
+    start: Known,
+    first: Known,
+    second: Known,
+    i: usize,
+    y1: u32,
+    y2: u32,
+) -> Share
+    ensures { λ x. ⌜ ShareIs 68719476736 (shareBy by start first second i y1 y2) x ⌝ }
+{
+    let a = start_by(by, start, i, (y1 as u64) + (y2 as u64));
+    let b = end_by(by, first, i, y1 as u64);
+    let c = end_by(by, second, i, y2 as u64);
+    Share {
+        allowed: a.allowed & b.allowed & c.allowed,
+        gains: b.gains + c.gains + a.gains,
+        losses: b.losses + c.losses,
+    }
+}

@@ -62,18 +62,9 @@ endRemainder m k s y =
       losses = bit one * (10000 - y);
     }
 
--- The share of state s at the start, and at an end.
-unfoldable pub startBy : Closing → Known → ℕ → ℕ → Share
-startBy BySums k s y = startShare k s y
-startBy (ByRemainders m) k s y = startRemainder m k s y
-
-unfoldable pub endBy : Closing → Known → ℕ → ℕ → Share
-endBy BySums k s y = endShare k s y
-endBy (ByRemainders m) k s y = endRemainder m k s y
-
--- The shares at the start and at the two ends together.
-abbrev pub together : Share → Share → Share → Share
-together a b c =
+-- The shares at the start and at the two ends together. At the start there are no losses.
+abbrev pub sumOf : Share → Share → Share → Share
+sumOf a b c =
     record {
       allowed = a .allowed && b .allowed && c .allowed;
       gains = b .gains + c .gains + a .gains;
@@ -82,7 +73,13 @@ together a b c =
 
 -- The share of state s, by what is known at the start, at end 1 and at end 2; v and w are its weights at the ends, plus 10,000.
 unfoldable pub shareBy : Closing → Known → Known → Known → ℕ → ℕ → ℕ → Share
-shareBy by a b c s v w = together (startBy by a s (v + w)) (endBy by b s v) (endBy by c s w)
+shareBy BySums a b c s v w = sumOf (startShare a s (v + w)) (endShare b s v) (endShare c s w)
+shareBy (ByRemainders m) a b c s v w = sumOf (startRemainder m a s (v + w)) (endRemainder m b s v) (endRemainder m c s w)
+
+-- The numbers of a share are so small that three of them can be added.
+pub record Few (x : Share) : Type 0 where
+  pub gains : x .gains ≤ 17179869184
+  pub losses : x .losses ≤ 17179869184
 
 -- r is the share x, and its numbers are at most m.
 pub record ShareIs (m : ℕ) (x r : Share) : Type 0 where

@@ -1,11 +1,11 @@
 // The share of one state in the rule by which a leaf closes: the leaf rule goes by sums, the remainder rule by remainders. A
-// weight is read with 10,000 added, so all numbers are unsigned. Every function is total.
+// weight is read with 10,000 added, so all numbers are unsigned. Every public function is total.
 ghost use mathlib.Core.Path.{_≡_};
 ghost use Prim.Native.Nat.{_+_, _-_, _*_};
 ghost use Rattle.theory.specs.Bool.{bit};
 ghost use Rattle.theory.specs.Remainder.{congruent};
 ghost use Rattle.format.specs.Code.{Value};
-ghost use Rattle.share.specs.Code.{relatesBy, startShare, endShare, startRemainder, endRemainder, startBy, endBy, shareBy, ShareIs};
+ghost use Rattle.share.specs.Code.{relatesBy, startShare, endShare, startRemainder, endRemainder, sumOf, shareBy, Few, ShareIs};
 
 // How a leaf closes: by sums, or by remainders on division by a modulus.
 pub enum Closing {
@@ -145,23 +145,15 @@ fn end_remainder(m: u64, known: Known, i: usize, y: u64) -> Share
     }
 }
 
-// The share of state i at the start.
-fn start_by(by: Closing, known: Known, i: usize, y: u64) -> Share
-    ensures { λ x. ⌜ ShareIs (20000 + y) (startBy by known i y) x ⌝ }
+// The shares at the start and at the two ends together. At the start there are no losses.
+fn together(a: Share, b: Share, c: Share) -> Share
+    requires { ⌜ Few a × Few b × Few c ⌝ }
+    ensures { λ x. ⌜ ShareIs 68719476736 (sumOf a b c) x ⌝ }
 {
-    match by {
-        Closing::BySums => start_share(known, i, y),
-        Closing::ByRemainders(m) => start_remainder(m, known, i, y),
-    }
-}
-
-// The share of state i at an end.
-fn end_by(by: Closing, known: Known, i: usize, y: u64) -> Share
-    ensures { λ x. ⌜ ShareIs (20000 + y) (endBy by known i y) x ⌝ }
-{
-    match by {
-        Closing::BySums => end_share(known, i, y),
-        Closing::ByRemainders(m) => end_remainder(m, known, i, y),
+    Share {
+        allowed: a.allowed & b.allowed & c.allowed,
+        gains: b.gains + c.gains + a.gains,
+        losses: b.losses + c.losses,
     }
 }
 
@@ -178,12 +170,21 @@ pub fn share_by(
 ) -> Share
     ensures { λ x. ⌜ ShareIs 68719476736 (shareBy by start first second i y1 y2) x ⌝ }
 {
-    let a = start_by(by, start, i, (y1 as u64) + (y2 as u64));
-    let b = end_by(by, first, i, y1 as u64);
-    let c = end_by(by, second, i, y2 as u64);
-    Share {
-        allowed: a.allowed & b.allowed & c.allowed,
-        gains: b.gains + c.gains + a.gains,
-        losses: b.losses + c.losses,
+    let v = y1 as u64;
+    let w = y2 as u64;
+    let both = v + w;
+    match by {
+        Closing::BySums => {
+            let a = start_share(start, i, both);
+            together(a, end_share(first, i, v), end_share(second, i, w))
+        }
+        Closing::ByRemainders(m) => {
+            let a = start_remainder(m, start, i, both);
+            together(
+                a,
+                end_remainder(m, first, i, v),
+                end_remainder(m, second, i, w),
+            )
+        }
     }
 }

@@ -1,6 +1,6 @@
 -- Each arm is a case of the definition.
 use borrow.Author.Needs.{needs}
-use Rattle.share.specs.Code.Laws.{choosing}
+use Rattle.share.specs.Code.Laws.{relating}
 use Rattle.share.proofs.relates.Statement.{statement}
 use Rattle.share.proofs.relates.Tie as tie
 
@@ -14,10 +14,10 @@ same-modulo-requires : tie.Need-same-modulo-requires
 same-modulo-requires c κs = search needs
 
 returns : tie.Need-returns
-returns c = search (choosing, needs)
+returns c = search (relating, needs)
 
 returns-2 : tie.Need-returns-2
-returns-2 c = search (choosing, needs)
+returns-2 c = search (relating, needs)
 
 pub relates-spec : {M : Type 1} → statement M
 relates-spec = tie.close (tie.spec enum-told enum-known-by same-modulo-requires returns returns-2)

@@ -1,42 +1,62 @@
--- The shares at the start and at the ends are put together.
+-- Each arm is a case of the definition.
 use borrow.Author.Needs.{needs}
-use Rattle.share.specs.Code.Laws.{share-is}
 use Rattle.share.proofs.share_by.Statement.{statement}
 use Rattle.share.proofs.share_by.Tie as tie
+use Rattle.share.specs.Code.Laws.{summing}
 
-add-start-by : tie.Need-add-start-by
-add-start-by c = search needs
+add-both : tie.Need-add-both
+add-both c = search needs
 
-start-by-requires : tie.Need-start-by-requires
-start-by-requires c κs = search needs
+enum-told : tie.Need-enum-told
+enum-told c = search needs
 
-end-by-requires : tie.Need-end-by-requires
-end-by-requires c κs = search needs
+start-share-requires : tie.Need-start-share-requires
+start-share-requires c κs = search needs
 
-end-by-requires-2 : tie.Need-end-by-requires-2
-end-by-requires-2 c κs = search needs
+end-share-requires : tie.Need-end-share-requires
+end-share-requires c κs = search needs
 
-add-t11 : tie.Need-add-t11
-add-t11 c = search needs
+end-share-requires-2 : tie.Need-end-share-requires-2
+end-share-requires-2 c κs = search needs
 
-add-t13 : tie.Need-add-t13
-add-t13 c = search needs
+together-requires : tie.Need-together-requires
+together-requires c κs = search needs
 
-add-t12 : tie.Need-add-t12
-add-t12 c = search needs
+enum-known-by : tie.Need-enum-known-by
+enum-known-by c = search needs
+
+start-remainder-requires : tie.Need-start-remainder-requires
+start-remainder-requires c κs = search needs
+
+end-remainder-requires : tie.Need-end-remainder-requires
+end-remainder-requires c κs = search needs
+
+end-remainder-requires-2 : tie.Need-end-remainder-requires-2
+end-remainder-requires-2 c κs = search needs
+
+together-requires-2 : tie.Need-together-requires-2
+together-requires-2 c κs = search needs
 
 returns : tie.Need-returns
-returns c = search (share-is, needs)
+returns c = search (summing, needs)
+
+returns-2 : tie.Need-returns-2
+returns-2 c = search (summing, needs)
 
 pub share-by-spec : {M : Type 1} → statement M
 share-by-spec =
     tie.close
     (tie.spec
-    add-start-by
-    start-by-requires
-    end-by-requires
-    end-by-requires-2
-    add-t11
-    add-t13
-    add-t12
-    returns)
+    add-both
+    enum-told
+    start-share-requires
+    end-share-requires
+    end-share-requires-2
+    together-requires
+    enum-known-by
+    start-remainder-requires
+    end-remainder-requires
+    end-remainder-requires-2
+    together-requires-2
+    returns
+    returns-2)

@@ -16,8 +16,8 @@ use Rattle.theory.specs.Leaf.{total, nonIncreasing, startFits, spare, endFits, 
 use Rattle.theory.specs.Remainder.{congruent, exactlyOne, conserved, startVanishes, endVanishes, excess, deficit, remainderCloses}
 use Rattle.theory.specs.Remainder.Congruence.{congruent-apart}
 use Rattle.format.specs.Code.{Value}
-use Rattle.share.specs.Code.{closesBy, keptBy, relatesBy, KnownAt, startShare, endShare, startRemainder, endRemainder, startBy, endBy}
-use Rattle.share.specs.Code.{together, shareBy, ShareIs}
+use Rattle.share.specs.Code.{closesBy, keptBy, relatesBy, KnownAt, startShare, endShare, startRemainder, endRemainder}
+use Rattle.share.specs.Code.{sumOf, shareBy, ShareIs}
 use Rattle.share.specs.declared.Closing.{Closing}
 use Rattle.share.specs.declared.Closing.the-variants.{BySums, ByRemainders}
 use Rattle.share.specs.declared.Known.{Known}
@@ -40,33 +40,15 @@ pub ruleset sameness = (same-equal, same-none, same-divides)
 
 -- ---- By sums, or by remainders
 
-module _ (by : Closing) (e : by ≡ BySums) where
-  pub relates-sums : (a b : ℕ) → leb a b ≡ relatesBy by a b
-  unfolding relatesBy
-  relates-sums a b = rw e
+pub relates-sums : (by : Closing) (a b : ℕ) → by ≡ BySums → leb a b ≡ relatesBy by a b
+unfolding relatesBy
+relates-sums by a b e = rw e
 
-  pub start-sums : (k : Known) (s y n : ℕ) (r : Share) → ShareIs n (startShare k s y) r → ShareIs n (startBy by k s y) r
-  unfolding startBy
-  start-sums k s y n r h = rw e h
+pub relates-remainders : (by : Closing) (m a b : ℕ) (t : Bool) → by ≡ ByRemainders m → t ≡ congruent m a b → t ≡ relatesBy by a b
+unfolding relatesBy
+relates-remainders by m a b t e h = rw e h
 
-  pub end-sums : (k : Known) (s y n : ℕ) (r : Share) → ShareIs n (endShare k s y) r → ShareIs n (endBy by k s y) r
-  unfolding endBy
-  end-sums k s y n r h = rw e h
-
-module _ (by : Closing) (m : ℕ) (e : by ≡ ByRemainders m) where
-  pub relates-remainders : (a b : ℕ) (t : Bool) → t ≡ congruent m a b → t ≡ relatesBy by a b
-  unfolding relatesBy
-  relates-remainders a b t h = rw e h
-
-  pub start-remainders : (k : Known) (s y n : ℕ) (r : Share) → ShareIs n (startRemainder m k s y) r → ShareIs n (startBy by k s y) r
-  unfolding startBy
-  start-remainders k s y n r h = rw e h
-
-  pub end-remainders : (k : Known) (s y n : ℕ) (r : Share) → ShareIs n (endRemainder m k s y) r → ShareIs n (endBy by k s y) r
-  unfolding endBy
-  end-remainders k s y n r h = rw e h
-
-pub ruleset choosing = (relates-sums, start-sums, end-sums, relates-remainders, start-remainders, end-remainders)
+pub ruleset relating = (relates-sums, relates-remainders)
 
 -- Equal numbers relate, by sums and by remainders.
 pub relates-equal : (by : Closing) (a : ℕ) → relatesBy by a a ≡ true
@@ -191,21 +173,23 @@ module _ (k : Known) (s y : ℕ) where
 
 pub ruleset sharing = (start-over, start-is, end-over, end-absent, end-below, remainder-start, remainder-end)
 
-module _ (by : Closing) (a b c : Known) (s x y : ℕ) where
-  -- The shares at the start and at the ends are put together.
-  pub share-is : (p q r : Share) → x < 4294967296 → y < 4294967296 → ShareIs (20000 + (x + y)) (startBy by a s (x + y)) p
-      → ShareIs (20000 + x) (endBy by b s x) q → ShareIs (20000 + y) (endBy by c s y) r → ShareIs 68719476736 (shareBy by a b c s x y) (together p q r)
+-- The shares p, q, r at the start and at the ends are put together in t.
+module _ (by : Closing) (a b c : Known) (s x y i j k : ℕ) (p q r t : Share) (h : ShareIs 68719476736 (sumOf p q r) t) where
+  pub share-sums : by ≡ BySums → ShareIs i (startShare a s (x + y)) p → ShareIs j (endShare b s x) q → ShareIs k (endShare c s y) r
+      → ShareIs 68719476736 (shareBy by a b c s x y) t
   unfolding shareBy
-  share-is p q r l m hp hq hr =
-      record {
-        is = rw (hp .is, hq .is, hr .is);
-        gains-most = omega (arith, hp .gains-most, hq .gains-most, hr .gains-most);
-        losses-most = omega (arith, hq .losses-most, hr .losses-most);
-      }
+  share-sums e hp hq hr = rw (e, ← hp .is, ← hq .is, ← hr .is) h
+
+  pub share-remainders : (m : ℕ) → by ≡ ByRemainders m → ShareIs i (startRemainder m a s (x + y)) p → ShareIs j (endRemainder m b s x) q
+      → ShareIs k (endRemainder m c s y) r → ShareIs 68719476736 (shareBy by a b c s x y) t
+  unfolding shareBy
+  share-remainders m e hp hq hr = rw (e, ← hp .is, ← hq .is, ← hr .is) h
+
+pub ruleset summing = (share-sums, share-remainders)
 
 -- A state whose weights are both 0 counts for nothing.
 pub share-none : (by : Closing) (a b c : Known) (s : ℕ) → shareBy by a b c s 10000 10000 ≡ share true 0 0
-unfolding shareBy startBy endBy startShare endShare startRemainder endRemainder congruent
+unfolding shareBy startShare endShare startRemainder endRemainder congruent
 share-none BySums a b c s =
     rw (
       or-true (member (a .absent) s),
@@ -277,7 +261,7 @@ module _ (P : Protocol) (F : Facts) (w : ℕ → ℕ → ℕ) (a b c : Known) (k
 
   by-sums : leafCloses P F w
       ≡ (nonIncreasing P (F .unused 1) (w 1) && nonIncreasing P (F .unused 2) (w 2)) && allowed BySums && ltb (losses BySums) (gains BySums)
-  unfolding leafCloses startFits endFits spare surplus shortfall shareBy startBy endBy startShare endShare
+  unfolding leafCloses startFits endFits spare surplus shortfall shareBy startShare endShare
   by-sums =
       let runs = nonIncreasing P (F .unused 1) (w 1) && nonIncreasing P (F .unused 2) (w 2) in
       let start = startFits P F 20000 (λ s. w 1 s + w 2 s) in
@@ -298,7 +282,7 @@ module _ (P : Protocol) (F : Facts) (w : ℕ → ℕ → ℕ) (a b c : Known) (k
   by-remainders : (m : ℕ) → remainderCloses P m F w
       ≡ (conserved P m (F .unused 1) (w 1) && conserved P m (F .unused 2) (w 2)) && allowed (ByRemainders m)
       && not (congruent m (gains (ByRemainders m)) (losses (ByRemainders m)))
-  unfolding remainderCloses startVanishes endVanishes excess deficit exactlyOne shareBy startBy endBy startRemainder endRemainder
+  unfolding remainderCloses startVanishes endVanishes excess deficit exactlyOne shareBy startRemainder endRemainder
   by-remainders m =
       let runs = conserved P m (F .unused 1) (w 1) && conserved P m (F .unused 2) (w 2) in
       let start = startVanishes P m F 20000 (λ s. w 1 s + w 2 s) in

@@ -1,5 +1,6 @@
--- What is proved of dockets. The statements stand in Claims.antt, their proofs in Claims/, the samples of documents 01 and 02
--- in Samples.antt.
+-- What is proved: Claims.antt has one field for each subject, OfDocket.antt the statements about dockets. The proofs stand in
+-- the folder beside each file, the samples of documents 01 and 02 in Samples.antt.
+pub mod OfDocket
 pub mod Claims
 pub mod Dockets
 pub mod Samples

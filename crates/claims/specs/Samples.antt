@@ -18,7 +18,7 @@ use Rattle.checker.specs.declared.Checked.{Checked}
 use Rattle.checker.specs.declared.Checked.the-variants.{Accepted, Refused}
 use Rattle.machine.specs.Calls.{verdictAnswer, verdictOf, replyOf, countsOf}
 use Rattle.machine.specs.declared.Verdict.the-variants.{Agreed}
-use Rattle.claims.specs.Claims.{Demand3}
+use Rattle.claims.specs.OfDocket.{Demand3}
 use Rattle.claims.specs.Claims.Proved.{claims}
 use Rattle.claims.specs.Dockets.OneLayer.{one-layer}
 use Rattle.claims.specs.Dockets.{cut, longer, exchanged, withoutAbsent, oneLayer}
@@ -94,8 +94,8 @@ requested-hold = (refl, (refl, (refl, (refl, (refl, (refl, (refl, (refl, tt)))))
 
 -- So demand 3 holds of a docket in which a pair has two outcomes: what it says of rest and verdict is not empty there.
 pub outcomes-settle : (c : List ℕ) → Demand3 twoOutcomes (headerOf twoOutcomes) c
-outcomes-settle = claims twoOutcomes .demand-3 (_, requested-hold .0)
+outcomes-settle = claims .of-docket twoOutcomes .demand-3 (_, requested-hold .0)
 
 -- And of a docket whose tree has a node of kind 7.
 pub parity-settles : (c : List ℕ) → Demand3 parity (headerOf parity) c
-parity-settles = claims parity .demand-3 (_, requested-hold .1 .1 .0)
+parity-settles = claims .of-docket parity .demand-3 (_, requested-hold .1 .1 .0)

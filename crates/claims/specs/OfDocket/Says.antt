@@ -28,8 +28,8 @@ use Rattle.machine.specs.declared.Started.the-variants as started
 use Rattle.machine.specs.declared.YesNo.the-variants as answer
 use Rattle.machine.specs.declared.Verdict as verdicts
 use Rattle.machine.specs.declared.Verdict.the-variants as shown
-use Rattle.claims.specs.Claims.{CallSays, LowestUnfit, passBack, Demand1}
-use Rattle.claims.specs.Claims.Numbers.{shape-refusal-is, unchanged}
+use Rattle.claims.specs.OfDocket.{CallSays, LowestUnfit, passBack, Demand1}
+use Rattle.claims.specs.OfDocket.Numbers.{shape-refusal-is, unchanged}
 
 -- ---- All calls alike
 

@@ -40,7 +40,7 @@ use Rattle.machine.specs.declared.YesNo as answers
 use Rattle.machine.specs.declared.YesNo.the-variants as answer
 use Rattle.machine.specs.declared.Verdict as verdicts
 use Rattle.machine.specs.declared.Verdict.the-variants as shown
-use Rattle.claims.specs.Claims.{passBack}
+use Rattle.claims.specs.OfDocket.{passBack}
 
 unfoldable pub isOneOf : ℕ → List ℕ → Bool
 isOneOf n [] = false

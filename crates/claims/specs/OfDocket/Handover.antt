@@ -20,9 +20,9 @@ use Rattle.shape.specs.declared.Shape as shapes
 use Rattle.shape.specs.declared.Shape.the-variants as shape
 use Rattle.checker.specs.Check.{walkOf, summaryOf, treeCheck, sectionsCheck, checkOf}
 use Rattle.checker.specs.declared.Checked.the-variants.{Refused}
-use Rattle.claims.specs.Claims.{treeIn, assumed}
-use Rattle.claims.specs.Claims.Refusals.{refuse, tells, walk-refused}
-use Rattle.claims.specs.Claims.Numbers.{isOneOf, shapeNumbers, shapeNumber, checkNumber, shape-number}
+use Rattle.claims.specs.OfDocket.{treeIn, assumed}
+use Rattle.claims.specs.OfDocket.Refusals.{refuse, tells, walk-refused}
+use Rattle.claims.specs.OfDocket.Numbers.{isOneOf, shapeNumbers, shapeNumber, checkNumber, shape-number}
 
 -- Some group breaks the handover at rule s, and none at a lower one.
 abbrev Lowest : List ℕ → Header → ℕ → Type 0

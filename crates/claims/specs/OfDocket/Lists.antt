@@ -19,9 +19,9 @@ use Rattle.shape.specs.declared.Refusal.{Refusal}
 use Rattle.shape.specs.declared.Shape.the-variants as shape
 use Rattle.machine.specs.Calls.{verdictOf, replyOf, countsOf}
 use Rattle.machine.specs.declared.Verdict.the-variants as shown
-use Rattle.claims.specs.Claims.{Rules, lastOn, reportedOn, CallsOn, Demand3}
-use Rattle.claims.specs.Claims.Exact.{certified, laddered}
-use Rattle.claims.specs.Claims.Says.{demand-1}
+use Rattle.claims.specs.OfDocket.{Rules, lastOn, reportedOn, CallsOn, Demand3}
+use Rattle.claims.specs.OfDocket.Exact.{certified, laddered}
+use Rattle.claims.specs.OfDocket.Says.{demand-1}
 
 -- A refused shape is passed back.
 abbrev passBack : Refusal → Reply

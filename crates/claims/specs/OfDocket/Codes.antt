@@ -34,11 +34,11 @@ use Rattle.machine.specs.declared.YesNo.the-variants as answer
 use Rattle.machine.specs.declared.Verdict as verdicts
 use Rattle.machine.specs.declared.Verdict.the-variants as shown
 use Rattle.codes.specs.Codes.{checkCode, startCode, yesNoCode, verdictCode, replyCode}
-use Rattle.claims.specs.Claims.{passBack, CodesTell}
-use Rattle.claims.specs.Claims.Numbers.{isOneOf, checkNumbers, callNumbers, checkNumber, startNumber, answerNumber, verdictNumber, replyNumber}
-use Rattle.claims.specs.Claims.Numbers.{check-number, start-number, enabled-number, terminal-number, verdict-number, step-number, run-number}
-use Rattle.claims.specs.Claims.Numbers.{shape-refusal-is}
-use Rattle.claims.specs.Claims.Refusals.{refusal-is}
+use Rattle.claims.specs.OfDocket.{passBack, CodesTell}
+use Rattle.claims.specs.OfDocket.Numbers.{isOneOf, checkNumbers, callNumbers, checkNumber, startNumber, answerNumber, verdictNumber, replyNumber}
+use Rattle.claims.specs.OfDocket.Numbers.{check-number, start-number, enabled-number, terminal-number, verdict-number, step-number, run-number}
+use Rattle.claims.specs.OfDocket.Numbers.{shape-refusal-is}
+use Rattle.claims.specs.OfDocket.Refusals.{refusal-is}
 
 -- ---- No refusal has the number 0, so none has the code 0
 

@@ -30,9 +30,9 @@ use Rattle.leaf.specs.Leaf.Laws.{leaf-good, leaf-bad}
 use Rattle.checker.specs.Check.{certificateTests, walkOf, summaryOf, treeCheck, sectionsCheck, checkOf}
 use Rattle.checker.specs.declared.Summary.{Summary}
 use Rattle.checker.specs.declared.Checked.the-variants.{Accepted, Refused}
-use Rattle.claims.specs.Claims.Refusals.{refuse, refused-not-accepted, refusal-is}
-use Rattle.claims.specs.Claims.Handover.{refused-by-10}
-use Rattle.claims.specs.Claims.{Lowers, treeIn, assumed, Rules, Demand2}
+use Rattle.claims.specs.OfDocket.Refusals.{refuse, refused-not-accepted, refusal-is}
+use Rattle.claims.specs.OfDocket.Handover.{refused-by-10}
+use Rattle.claims.specs.OfDocket.{Lowers, treeIn, assumed, Rules, Demand2}
 
 -- A tree that is accepted ends behind its last node.
 tree-ends : (P : Protocol) (H : Assumption) (T : Tree) (j : ℕ) → treeAnswer P H T ≡ next j → j ≡ T .nodes

@@ -10,7 +10,7 @@ use borrow.Author.Tests.{lt-ltb, le-ltb}
 use Rattle.theory.specs.Leaf.{signed}
 use Rattle.theory.specs.Leaf.Signed.{plus, minus, parts-same, sub-parts, le-parts, weight-parts}
 use Rattle.format.specs.Format.{biased}
-use Rattle.claims.specs.Claims.{number16}
+use Rattle.claims.specs.OfDocket.{number16}
 
 -- The number that 16 bits stand for is the difference of two numbers, one of which is 0.
 low-parts : (v : ℕ) → v < 32768 → (plus (number16 v) ≡ v) × (minus (number16 v) ≡ 0)

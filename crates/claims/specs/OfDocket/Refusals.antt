@@ -16,7 +16,7 @@ use Rattle.checker.specs.Check.{certificateTests, walkOf, summaryOf, treeCheck,
 use Rattle.checker.specs.declared.Summary.{Summary}
 use Rattle.checker.specs.declared.Checked.{Checked}
 use Rattle.checker.specs.declared.Checked.the-variants.{Accepted, Refused}
-use Rattle.claims.specs.Claims.{treeIn, assumed, testsIn}
+use Rattle.claims.specs.OfDocket.{treeIn, assumed, testsIn}
 
 -- The check's refusal by number n at place k.
 abbrev pub refuse : ℕ → ℕ → Checked

@@ -1,6 +1,6 @@
 #!/usr/bin/env bash
-# Compiles page_reader.c with the static library and compares its runs with examples/expect/.
-# Each file there is one run: the command line, what it prints, and its exit status.
+# Compiles page_reader.c and table_editor.c with the static library and compares their runs with examples/expect/.
+# Each file there is one run: the command line, what it prints, and its exit status. $new names a file that is not there yet.
 set -euo pipefail
 cd "$(dirname "$0")/.."
 library=target/staticlib/libdocket.a
@@ -11,14 +11,17 @@ if [[ ! -f $library ]]; then
   echo "examples: no $library; tools/library makes it" >&2
   exit 2
 fi
-cc -std=c99 -Wall -Wextra -Wpedantic -Werror -Iinclude examples/page_reader.c "$library" -o "$work/page_reader"
+for program in page_reader table_editor; do
+  cc -std=c99 -Wall -Wextra -Wpedantic -Werror -Iinclude "examples/$program.c" "$library" -o "$work/$program"
+done
 
 # Runs the command line that a file of expect/ begins with, and prints such a file for it.
 transcript() {
   local command status=0
   read -r command <"$1"
   printf '%s\n' "$command"
-  PATH="$work:$PATH" bash -c "$command" 2>&1 || status=$?
+  new=$work/new.docket PATH="$work:$PATH" bash -c "$command" 2>&1 || status=$?
+  rm -f "$work/new.docket"
   printf 'exit status %s\n' "$status"
 }
 

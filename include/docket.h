@@ -1,5 +1,6 @@
 /*
- * Checks dockets and runs their tables on counts of workers. C99 or later, or C++; x86-64. Link with the static library:
+ * Checks dockets, runs their tables on counts of workers, and writes dockets from their parts. C99 or later, or C++;
+ * x86-64. Link with the static library:
  *
  *     tools/library              (proves the functions and writes target/staticlib/libdocket.a)
  *     cc -Iinclude reader.c target/staticlib/libdocket.a
@@ -7,28 +8,33 @@
  * Call docket_check or docket_figures first, and use the table only where it returns 0. The calls of the machine (all
  * functions with counts) make only tests 1 to 8, so they work on a docket that docket_check refuses too, and such a
  * table may never come to rest. They make these tests in every call: to make many meetings, use docket_run rather than
- * docket_step again and again.
+ * docket_step again and again. docket_write needs no docket: it is lent the five sections and makes the header.
  *
  * What a caller hands over. A docket is a pointer to its bytes and their number; any bytes may be given, at any address.
- * Counts are one uint32_t for each state of the docket, in order, and their number. Counts, answers and figures are
- * aligned as their types are. No pointer is null, also where a length is 0, and no two of them overlap.
+ * The parts and the output of docket_write are handed over in the same way. Counts are one uint32_t for each state of
+ * the docket, in order, and their number. Counts, answers, figures and the total are aligned as their types are. No
+ * pointer is null, also where a length is 0, and no two of them overlap.
  *
  * What a function does. It writes only where it says here; it keeps nothing between calls and allocates nothing. So the
- * functions may be called from several threads at once, each with its own counts and answers. They use about 32 KB of
- * stack where a tree is 40 deep, else less; DOCKET_STACK bytes are enough. The library needs memcpy and memset, and no
- * other function from elsewhere.
+ * functions may be called from several threads at once, each with its own counts, answers and output. They use about
+ * 32 KB of stack where a tree is 40 deep, else less; DOCKET_STACK bytes are enough. The library needs memcpy and memset,
+ * and no other function from elsewhere.
  *
- * What a function returns: 0 where it did its work, else a refusal, which has a number and a place. The tests are made
- * in the order of the table, from above, each over all its places before the next begins: the first test that fails
- * gives the number, and the lowest place at which it fails the place. Tests 12 and 13 alone are made together, node by
- * node in the order of the file: at each node 12 before 13, and the first node at which one fails ends the check. So a
- * 13 at an earlier node comes before a 12 at a later one.
- * docket_check and docket_figures return the number times 65,536 plus the place; the others, whose place can be any
+ * What a function returns: 0 where it did its work, else a refusal, which has a number and a place. There is a table of
+ * tests for the check, for the calls of the machine and for docket_write. The tests are made in the order of the table,
+ * from above, each over all its places before the next begins: the first test that fails gives the number, and the
+ * lowest place at which it fails the place. Tests 12 and 13 alone are made together, node by node in the order of the
+ * file: at each node 12 before 13, and the first node at which one fails ends the check. So a 13 at an earlier node
+ * comes before a 12 at a later one.
+ * docket_check and docket_figures return the number times 65,536 plus the place; the others, where a place can be any
  * 32-bit rule number, the number times 2 to the power 32 plus the place. So each has its own pair of functions below
- * that take a refusal apart. A refused call changes no counts, and neither reads nor writes behind an answer pointer.
+ * that take a refusal apart. A refused call changes neither counts nor output, and neither reads nor writes behind a
+ * pointer for answers, figures or the total.
  *
  * S is the number of states, R of rules, L of layers, N of nodes and K of leaves, as the header of the docket has them.
  * Numbers of states, rules, layers, leaves and nodes begin at 0. docs/FORMAT.md has the whole format.
+ *
+ * The check:
  *
  *   number  place                 refused where
  *   1       0                     the file has fewer than 24 bytes, or another length than its header says
@@ -55,6 +61,17 @@
  *   22      state                 start test: a state that is no input holds a worker
  *   23      rule number given     step and can-act: it is R or more
  *   24      rule number given     step: the rule cannot act
+ *
+ * docket_write makes tests 31, 3, 5, 6, 7, 8, 11 and 30, in this order: 31 is its first test and 30 its last. Part 0 is
+ * the states, 1 the rules, 2 the layers, 3 the nodes and 4 the leaves; S, R, L, N and K are here the numbers of records
+ * in the parts, and L and K are 0 where S is 0.
+ *
+ *   31      0 to 4: a part        its length is no whole number of records, which have 1, 5, 4 S, 12 and 4 S bytes (so
+ *                                 place 0 does not occur); parts 2 and 4 are not tried where S is 0
+ *   3       as above              as above; any length may be given, and one of too many records is refused here
+ *   5 to 8  as above              as above, of parts 0 to 2
+ *   11      leaf                  as above, of part 4
+ *   30      0                     the output has fewer bytes than the docket would have
  */
 #ifndef DOCKET_H
 #define DOCKET_H
@@ -66,7 +83,7 @@
 extern "C" {
 #endif
 
-#define DOCKET_VERSION "0.3.0"   /* of this header and its library */
+#define DOCKET_VERSION "0.4.0"   /* of this header and its library */
 #define DOCKET_MAX_BYTES 65535   /* a longer file is refused with 1, 0; so read at most one byte more */
 #define DOCKET_MAX_STATES 64     /* counts for every docket fit an array of so many */
 #define DOCKET_STACK 65536       /* bytes of stack that are enough for every function */
@@ -105,7 +122,18 @@ uint64_t docket_step(const uint8_t *docket, size_t docket_len, uint32_t *counts,
 uint64_t docket_run(const uint8_t *docket, size_t docket_len, uint32_t *counts, size_t counts_len, uint32_t limit,
                     uint64_t *steps, uint64_t *rests);
 
-/* The number of states of a docket that passes tests 1 to 8: how many counts the other functions want. */
+/* Writes a docket of version 1. It is lent the parts, which are the bytes of the five sections without a header, and
+   the output, out_len bytes at out. The lengths of the parts give the counts; the function makes the header with
+   its offsets. Where it returns 0, the docket is the first *total bytes of the output, and the bytes from there on stay
+   as they were. *total is 24 plus the five lengths; an output of DOCKET_MAX_BYTES is always enough.
+   A part with no bytes has length 0 and any pointer but null.
+   The parts of a docket that passes tests 1 to 8 and 11 give the same bytes again. The ladder and the tree are not
+   judged (tests 9, 10, 12 and 13): call docket_check on what was written. */
+uint64_t docket_write(const uint8_t *states, size_t states_len, const uint8_t *rules, size_t rules_len,
+                      const uint8_t *layers, size_t layers_len, const uint8_t *nodes, size_t nodes_len,
+                      const uint8_t *leaves, size_t leaves_len, uint8_t *out, size_t out_len, uint64_t *total);
+
+/* The number of states of a docket that passes tests 1 to 8: how many counts the calls of the machine want. */
 static inline size_t docket_states(const uint8_t *docket) { return docket[2] + 256u * docket[3]; }
 
 /* The number and the place of a refusal of docket_check or docket_figures. */
@@ -125,7 +153,7 @@ static inline const char *docket_refusal_text(uint32_t number)
     case 2:
         return "The version is not 1.";
     case 3:
-        return "A count in the header is outside its limits.";
+        return "The number of states, rules, layers, nodes or leaves is outside its limits.";
     case 4:
         return "A section does not begin where the one before it ends, or the total length is wrong.";
     case 5:
@@ -156,6 +184,10 @@ static inline const char *docket_refusal_text(uint32_t number)
         return "There is no rule of this number.";
     case 24:
         return "The rule cannot act.";
+    case 30:
+        return "The output is shorter than the docket.";
+    case 31:
+        return "The length of a part is no whole number of records.";
     default:
         return "There is no refusal of this number.";
     }

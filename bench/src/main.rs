@@ -112,6 +112,7 @@ struct Inputs {
     checks: Vec<(String, Vec<u8>)>,
     runs: Vec<(String, Vec<u8>, Vec<u32>)>,
     outcomes: Vec<(String, Vec<u8>, Vec<u32>)>,
+    writes: Vec<(String, Vec<u8>)>,
 }
 
 impl Inputs {
@@ -120,6 +121,7 @@ impl Inputs {
             checks: checks(),
             runs: runs(),
             outcomes: outcomes(),
+            writes: writes(),
         }
     }
 
@@ -138,6 +140,7 @@ impl Inputs {
         cases.extend(small_groups.map(|(name, docket, counts)| refused_case(name, docket, counts)));
         let checks = self.outcomes.iter();
         cases.extend(checks.map(|(name, docket, _)| check_case(&format!("check, {name}"), docket)));
+        cases.extend(self.writes.iter().map(|(name, docket)| write_case(name, docket)));
         cases
     }
 }
@@ -270,5 +273,35 @@ fn refused_case<'a>(name: &str, docket: &'a [u8], counts: &'a [u32]) -> Case<'a>
             Box::new(move || baseline::step_code(black_box(docket), &mut second, 1000)),
             Box::new(move || calls::say(black_box(docket), &mut third, Call::Step(1000)).code),
         ],
+    }
+}
+
+fn writes() -> Vec<(String, Vec<u8>)> {
+    let largest = ("write, every count at its limit".into(), make::largest().bytes());
+    vec![largest, ("write, broadcast".into(), make::broadcast().bytes())]
+}
+
+/// Writes parts to an output, and hands back the total.
+type Write = fn([&[u8]; 5], &mut [u8]) -> u64;
+
+/// The parts of a docket are written to an output of its length; the answer is the total.
+fn write_case<'a>(name: &str, docket: &'a [u8]) -> Case<'a> {
+    let parts = second::sections(docket).expect("a docket that passes tests 1 to 4");
+    let writers: [Write; 3] = [
+        |parts, output| native::write(parts, output).answers[0],
+        |parts, output| baseline::write(parts, output).map_or(0, |total| total as u64),
+        |parts, output| calls::write(parts, output).answers[0],
+    ];
+    let calls = writers.map(|write| -> Box<dyn FnMut() -> u64 + 'a> {
+        let mut output = vec![0; docket.len()];
+        write(parts, &mut output);
+        assert!(output == docket, "{name}: other bytes are written");
+        Box::new(move || write(black_box(parts), black_box(&mut output)))
+    });
+    Case {
+        name: name.into(),
+        unit: "call",
+        units: 1,
+        calls,
     }
 }

@@ -1,4 +1,4 @@
-//! The parsed docket, tests 1 to 8, and the check as a whole.
+//! The parsed docket, tests 1 to 8, the check as a whole, and the file of a docket.
 
 use crate::{ladder, tree};
 
@@ -126,7 +126,11 @@ pub fn line(docket: &[u8]) -> String {
 
 /// Tests 1 to 8. Nodes and leaves are read and not tested.
 pub fn parse(docket: &[u8]) -> Result<Docket, Refusal> {
-    let [states, rules, layers, nodes, leaves] = sections(docket)?;
+    read(sections(docket)?)
+}
+
+/// Tests 5 to 8 on the bytes of the five sections, which pass test 3.
+pub(crate) fn read([states, rules, layers, nodes, leaves]: [&[u8]; 5]) -> Result<Docket, Refusal> {
     state_test(states)?;
     let parsed = Docket {
         states: states.iter().map(read_state).collect(),
@@ -142,7 +146,7 @@ pub fn parse(docket: &[u8]) -> Result<Docket, Refusal> {
 }
 
 /// Tests 1 to 4; hands back the bytes of the five sections.
-fn sections(docket: &[u8]) -> Result<[&[u8]; 5], Refusal> {
+pub fn sections(docket: &[u8]) -> Result<[&[u8]; 5], Refusal> {
     if docket.len() < 24 || u16_at(docket, 22) != docket.len() {
         return refuse(1, 0);
     }
@@ -150,21 +154,41 @@ fn sections(docket: &[u8]) -> Result<[&[u8]; 5], Refusal> {
         return refuse(2, 0);
     }
     let counts: [usize; 5] = std::array::from_fn(|i| u16_at(docket, 2 + 2 * i));
-    let [s, r, l, n, k] = counts;
+    count_test(counts)?;
+    let records = record_lengths(counts[0]);
+    let ends = ends(std::array::from_fn(|i| counts[i] * records[i]));
+    if let Some(place) = (0..6).find(|&i| u16_at(docket, 12 + 2 * i) != ends[i]) {
+        return refuse(4, place);
+    }
+    Ok(std::array::from_fn(|i| &docket[ends[i]..ends[i + 1]]))
+}
+
+/// Test 3.
+pub(crate) fn count_test(counts: [usize; 5]) -> Result<(), Refusal> {
+    let [_, r, l, _, _] = counts;
     let limits = [2..=64, 0..=256, 0..=16, 1..=2048, 0..=128];
     for (place, limit) in limits.iter().enumerate() {
         if !limit.contains(&counts[place]) || (place == 2 && (l == 0) != (r == 0)) {
             return refuse(3, place);
         }
     }
+    Ok(())
+}
+
+/// The length of one record of each section. A product that is too great stays the greatest number, which no section is
+/// as long as.
+pub fn record_lengths(states: usize) -> [usize; 5] {
+    let weights = states.saturating_mul(4);
+    [1, 5, weights, 12, weights]
+}
+
+/// Where each of five sections of these lengths begins, and where the last one ends.
+fn ends(lengths: [usize; 5]) -> [usize; 6] {
     let mut ends = [24; 6];
-    for (i, length) in [s, 5 * r, 4 * s * l, 12 * n, 4 * s * k].iter().enumerate() {
+    for (i, length) in lengths.iter().enumerate() {
         ends[i + 1] = ends[i] + length;
     }
-    if let Some(place) = (0..6).find(|&i| u16_at(docket, 12 + 2 * i) != ends[i]) {
-        return refuse(4, place);
-    }
-    Ok(std::array::from_fn(|i| &docket[ends[i]..ends[i + 1]]))
+    ends
 }
 
 /// Test 5.
@@ -266,16 +290,17 @@ impl Docket {
             self.nodes.iter().flat_map(node_bytes).collect(),
             leaf_weights.flat_map(|&weight| (weight as i16).to_le_bytes()).collect(),
         ];
-        let mut header = vec![1, self.states.len(), self.rules.len(), self.weights.len()];
-        header.extend([self.nodes.len(), self.leaves.len(), 24]);
-        let mut end = 24;
-        for section in &sections {
-            end += section.len();
-            header.push(end);
-        }
-        let header = header.iter().flat_map(|&number| (number as u16).to_le_bytes());
-        header.chain(sections.concat()).collect()
+        let [states, rules, layers] = [self.states.len(), self.rules.len(), self.weights.len()];
+        let counts = [states, rules, layers, self.nodes.len(), self.leaves.len()];
+        assemble(counts, std::array::from_fn(|i| &sections[i][..]))
     }
+}
+
+/// The header with these counts, each number cut to its width in the file, and the sections behind it.
+pub(crate) fn assemble(counts: [usize; 5], sections: [&[u8]; 5]) -> Vec<u8> {
+    let header = [&[1], &counts[..], &ends(sections.map(<[u8]>::len))].concat();
+    let header = header.iter().flat_map(|&number| (number as u16).to_le_bytes());
+    header.chain(sections.concat()).collect()
 }
 
 fn rule_bytes(rule: &Rule) -> [u8; 5] {

@@ -1,5 +1,5 @@
-//! A second implementation of the docket check and of its machine, tested and not proved. It depends on nothing but
-//! Rust's standard library, so it checks dockets where the Rattle kit cannot be had.
+//! A second implementation of the docket check, of its machine and of the writer, tested and not proved. It depends on
+//! nothing but Rust's standard library, so it checks dockets where the Rattle kit cannot be had.
 //!
 //! Sets and facts are arrays of bool, weights and their sums are signed numbers, and each test is a plain loop in the
 //! order of docs/FORMAT.md, so that it can be laid beside its line there.
@@ -8,7 +8,9 @@ mod docket;
 mod ladder;
 mod machine;
 mod tree;
+mod writer;
 
-pub use docket::{check, line, parse, Docket, Figures, Leaf, Node, Refusal, Rule, State};
+pub use docket::{check, line, parse, record_lengths, sections, Docket, Figures, Leaf, Node, Refusal, Rule, State};
 pub use ladder::handover;
 pub use machine::{can_act, is_standstill, run, start_test, step, verdict, Ran, Verdict};
+pub use writer::write;

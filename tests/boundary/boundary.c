@@ -1,5 +1,5 @@
 /*
- * The C boundary: hands every function of docket.h exact copies of docket files and of shortened ones.
+ * The C boundary: hands every function of docket.h but docket_write exact copies of docket files and of shortened ones.
  *
  *     boundary FILE.docket...          FILE.expect stands beside each
  *
@@ -8,16 +8,9 @@
  * page ends. Dockets of the last two kinds stand in pages that cannot be written. A refused call is made once more with
  * answers that can be neither read nor written.
  */
-#define _DEFAULT_SOURCE
-#include <inttypes.h>
-#include <stdint.h>
-#include <stdio.h>
-#include <stdlib.h>
-#include <string.h>
-#include <sys/mman.h>
-#include <unistd.h>
+#include "shared.h"
 
-#include "docket.h"
+#include <inttypes.h>
 
 enum {
     HEADER = 24,
@@ -29,7 +22,6 @@ enum {
     FIGURES = 6
 };
 
-enum kind { HEAP, ENDS_AT_GUARD, BEGINS_AT_GUARD, KINDS };
 enum function { START_TEST, CAN_ACT, IS_STANDSTILL, VERDICT, STEP, RUN, CHECK, CHECK_FIGURES, FUNCTIONS };
 enum filling { START, ZEROS, ALL_BITS, A_MILLION, FILLINGS };
 
@@ -40,12 +32,6 @@ static const char *const names[FUNCTIONS] = {"docket_start_test", "docket_can_ac
 struct call {
     enum function function;
     uint32_t argument; /* rule number or limit */
-};
-
-/* Memory with a page without access on both sides. */
-struct region {
-    uint8_t *begin;
-    size_t size;
 };
 
 struct file {
@@ -90,36 +76,6 @@ static uint64_t *no_access;    /* room for answers, in a page that can be neithe
 static uint64_t calls_made[FUNCTIONS];
 static uint64_t calls_not_refused[FUNCTIONS];
 
-static void stop(const char *what)
-{
-    perror(what);
-    exit(2);
-}
-
-static struct region new_region(size_t wanted)
-{
-    size_t page = (size_t)sysconf(_SC_PAGESIZE);
-    size_t size = (wanted + page - 1) / page * page;
-    uint8_t *all = mmap(NULL, size + 2 * page, PROT_NONE, MAP_PRIVATE | MAP_ANONYMOUS, -1, 0);
-    if (all == MAP_FAILED || mprotect(all + page, size, PROT_READ | PROT_WRITE) != 0)
-        stop("mmap");
-    return (struct region){all + page, size};
-}
-
-/* Where a block of len bytes stands in the region of its kind. */
-static uint8_t *place(struct region r, enum kind kind, size_t len)
-{
-    return kind == ENDS_AT_GUARD ? r.begin + r.size - len : r.begin;
-}
-
-static void *new_block(size_t len)
-{
-    void *block = malloc(len > 0 ? len : 1);
-    if (block == NULL)
-        stop("malloc");
-    return block;
-}
-
 static void lend(struct lent *lent, const char *variant, const uint8_t *bytes, size_t len)
 {
     uint8_t *block = new_block(len);
@@ -129,11 +85,9 @@ static void lend(struct lent *lent, const char *variant, const uint8_t *bytes, s
     for (enum kind k = ENDS_AT_GUARD; k < KINDS; k++) {
         struct region r = docket_regions[k];
         uint8_t *copy = place(r, k, len);
-        if (mprotect(r.begin, r.size, PROT_READ | PROT_WRITE) != 0)
-            stop("mprotect");
+        protect(r, PROT_READ | PROT_WRITE);
         memcpy(copy, bytes, len);
-        if (mprotect(r.begin, r.size, PROT_READ) != 0)
-            stop("mprotect");
+        protect(r, PROT_READ);
         lent->copy[k] = copy;
     }
 }
@@ -243,16 +197,6 @@ static void try_figures(struct file *file, const struct lent *lent, uint64_t fig
     }
 }
 
-/* Whether the number of a refusal has a sentence of its own. */
-static int has_text(uint32_t number)
-{
-    const char *text = docket_refusal_text(number);
-    for (uint32_t other = 0; other < 100; other++)
-        if (other != number && strcmp(text, docket_refusal_text(other)) == 0)
-            return 0;
-    return text[0] != '\0' && text[strlen(text) - 1] == '.';
-}
-
 static uint32_t filled(const struct file *file, enum filling filling, size_t state)
 {
     switch (filling) {
@@ -320,8 +264,6 @@ static void set16(uint8_t *bytes, size_t at, size_t value)
     bytes[at] = (uint8_t)(value % 256);
     bytes[at + 1] = (uint8_t)(value / 256);
 }
-
-static size_t get16(const uint8_t *bytes, size_t at) { return bytes[at] + 256u * bytes[at + 1]; }
 
 /* Cuts the docket behind a node, with number of nodes, offset and total length to match and no leaf. */
 static void try_cut(struct file *file, size_t len)
@@ -412,14 +354,9 @@ static void list_calls(struct file *file, uint32_t rules)
 /* Reads the file. The numbers of states and rules are the header's, or 2 and 1 where it has no such header. */
 static void read_file(struct file *file, const char *name)
 {
-    FILE *f = fopen(name, "rb");
-    if (f == NULL)
-        stop(name);
     memset(file, 0, sizeof *file);
     file->name = name;
-    file->len = fread(file->bytes, 1, DOCKET_MAX_BYTES, f);
-    if (ferror(f) || fgetc(f) != EOF || fclose(f) != 0)
-        stop(name);
+    file->len = read_bytes(name, file->bytes, DOCKET_MAX_BYTES);
     size_t states = get16(file->bytes, 2);
     size_t rules = get16(file->bytes, 4);
     file->states = states >= 2 && states <= DOCKET_MAX_STATES ? states : 2;
@@ -464,10 +401,7 @@ int main(int argc, char **argv)
         docket_regions[k] = new_region(MOST_LENT);
         counts_regions[k] = new_region(MOST_COUNTS * sizeof(uint32_t));
     }
-    struct region page = new_region(1);
-    if (mprotect(page.begin, page.size, PROT_NONE) != 0)
-        stop("mprotect");
-    no_access = (uint64_t *)(void *)page.begin;
+    no_access = new_no_access();
     for (int i = 1; i < argc; i++)
         passed += try_file(argv[i]);
     if (!say_calls()) {

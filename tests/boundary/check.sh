@@ -1,6 +1,6 @@
 #!/usr/bin/env bash
 # Tests the C boundary on every docket of a folder: tests/corpus, or the one named. Each docket has its .expect file beside it.
-# boundary.c runs under AddressSanitizer, stack.c measures the stack, and the library may need memcpy and memset alone.
+# boundary.c and writing.c run under AddressSanitizer, stack.c measures the stack, and the library may need memcpy and memset alone.
 set -euo pipefail
 corpus=$(realpath -- "${1-$(dirname "$0")/../corpus}")
 cd "$(dirname "$0")/../.."
@@ -40,7 +40,9 @@ passed=$((passed + 1))
 
 gcc "${strict[@]}" -O2 tests/boundary/stack.c "$library" -o "$work/stack"
 add "$work/stack" "$corpus"/*.docket
-gcc "${strict[@]}" -fsanitize=address,undefined -fno-sanitize-recover=all -g -O1 \
-  tests/boundary/boundary.c "$library" -o "$work/boundary"
-add "$work/boundary" "$corpus"/*.docket
+for program in writing boundary; do
+  gcc "${strict[@]}" -fsanitize=address,undefined -fno-sanitize-recover=all -g -O1 \
+    "tests/boundary/$program.c" "$library" -o "$work/$program"
+  add "$work/$program" "$corpus"/*.docket
+done
 echo "$passed passed, 0 failed"

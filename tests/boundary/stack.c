@@ -43,6 +43,19 @@ static void call_machine(void)
     docket_run(docket, docket_len, counts, states, 100, &first, &second);
 }
 
+static size_t offset(size_t section) { return docket[12 + 2 * section] + 256u * docket[13 + 2 * section]; }
+
+static size_t length(size_t section) { return offset(section + 1) - offset(section); }
+
+/* Writes the sections of the docket to an output of its length. */
+static void call_writer(void)
+{
+    static uint8_t output[MOST_BYTES];
+    uint64_t total = 0;
+    docket_write(docket + offset(0), length(0), docket + offset(1), length(1), docket + offset(2), length(2),
+                 docket + offset(3), length(3), docket + offset(4), length(4), output, docket_len, &total);
+}
+
 /* The bytes of stack that the function and what it calls used. */
 static size_t used_by(void (*function)(void))
 {
@@ -65,7 +78,7 @@ static size_t greater(size_t a, size_t b) { return a > b ? a : b; }
 
 int main(int argc, char **argv)
 {
-    size_t check = 0, machine = 0;
+    size_t check = 0, machine = 0, writer = 0;
     for (int i = 1; i < argc; i++) {
         FILE *f = fopen(argv[i], "rb");
         if (f == NULL) {
@@ -78,9 +91,12 @@ int main(int argc, char **argv)
         uint32_t number = docket_check_number(docket_check(docket, docket_len));
         if (number == 0 || number > 8)
             machine = greater(machine, used_by(call_machine));
+        if (number == 0 || number > 4)
+            writer = greater(writer, used_by(call_writer));
     }
-    printf("docket_check and docket_figures used %zu bytes of stack, the calls of the machine %zu\n", check, machine);
-    int good = machine > 0 && greater(check, machine) <= DOCKET_STACK;
+    printf("docket_check and docket_figures used %zu bytes of stack, the calls of the machine %zu, docket_write %zu\n",
+           check, machine, writer);
+    int good = machine > 0 && writer > 0 && greater(greater(check, machine), writer) <= DOCKET_STACK;
     printf("%d passed, %d failed\n", good, !good);
     return good ? 0 : 1;
 }

@@ -1,4 +1,4 @@
-//! A machine call, and what it says in the terms of `docket.h`.
+//! A call of the machine or of the writer, and what it says in the terms of `docket.h`.
 
 use second::{Ran, Refusal, Verdict};
 
@@ -54,6 +54,11 @@ pub fn say(docket: &[u8], counts: &mut [u32], call: Call) -> Said {
         Call::Run(limit) => second::run(docket, counts, limit).map(|ran| Said::done(&ran_numbers(ran))),
     };
     said.unwrap_or_else(Said::refused)
+}
+
+/// What the writer of the second implementation says, as docket_write says it: the total is the first answer.
+pub fn write(parts: [&[u8]; 5], output: &mut [u8]) -> Said {
+    second::write(parts, output).map_or_else(Said::refused, |total| Said::done(&[total as u64]))
 }
 
 fn verdict_number(verdict: Verdict) -> u64 {

@@ -14,11 +14,12 @@ use tests::calls::{self, check_code, Call, UNTOUCHED};
 use tests::make::remainder;
 use tests::random::Random;
 use tests::tally::Tally;
-use tests::{damage, make, native, outcomes, prover, remainders, samples};
+use tests::{damage, make, native, outcomes, parts, prover, remainders, samples, writing};
 
 const THREADS: u64 = 2;
 const DOCKETS: u64 = 400_000;
 const LISTS: u64 = 100_000;
+const WRITES: u64 = 150_000;
 const LINES: u64 = 4_000;
 
 struct Results {
@@ -48,6 +49,7 @@ fn main() {
     let mut results = Results { passed: 0, failed: 0 };
     run_samples(&mut results);
     let corpus = run_corpus(&mut results);
+    run_written(&mut results);
     let pool = Pool::new(seed, corpus);
     println!(
         "{} accepted dockets to begin with, of them {} large",
@@ -90,6 +92,18 @@ fn report(tally: &Tally) {
         "several rules for a pair, dockets by refusal (0: accepted): {:?}; {} steps, {} runs",
         tally.outcomes, tally.outcome_steps, tally.outcome_runs
     );
+    let writes = &tally.writes;
+    println!(
+        "{} dockets written again; {} changed parts, written by bytes beyond the total (2: more): {:?}",
+        writes.again, writes.calls, writes.written
+    );
+    println!(
+        "writer: refusals 31 and 3 by least number of states, number and place: {:?}",
+        writes.states
+    );
+    for (number, places) in &writes.places {
+        println!("writer: refusal {number} at {} places", places.len());
+    }
 }
 
 fn differences(tally: &Tally) -> Option<String> {
@@ -112,15 +126,24 @@ fn run_samples(results: &mut Results) {
     for sample in samples::calls().into_iter().chain(outcomes::calls()) {
         results.expect(sample.name, call_problem(&sample));
     }
+    for (name, problem) in writing::samples() {
+        results.expect(&format!("writer: {name}"), problem);
+    }
     results.expect("standard input that cannot be read", unreadable_problem());
 }
 
-/// What is wrong with what the two implementations and the program say of a docket.
+/// What is wrong with what the two implementations and the program say of a docket, or with how its parts are written.
 fn line_problem(docket: &[u8], line: &str) -> Option<String> {
     let (second, printed) = (second::line(docket), printed_line(docket));
     let (native, code) = (native::check(docket), check_code(docket));
     let good = second.trim_end() == line && printed == second && native == code && figures_agree(docket);
-    (!good).then(|| format!("expected {line}, second {second:?}, printed {printed:?}, codes {native} and {code}"))
+    if !good {
+        let codes = format!("codes {native} and {code}");
+        return Some(format!(
+            "expected {line}, second {second:?}, printed {printed:?}, {codes}"
+        ));
+    }
+    writing::write_again(docket).err()
 }
 
 /// Whether docket_figures says of a docket what the second implementation says.
@@ -203,6 +226,21 @@ fn run_corpus(results: &mut Results) -> Vec<Docket> {
         }
     }
     accepted
+}
+
+/// The least number of cases of the writer in the corpus.
+const CASES: usize = 20;
+
+/// Runs the writer's cases of the corpus.
+fn run_written(results: &mut Results) {
+    let file = Path::new(env!("CARGO_MANIFEST_DIR")).join("corpus/writer.txt");
+    let text = std::fs::read_to_string(&file).expect("the writer's cases");
+    let cases: Vec<&str> = text.lines().filter(|line| !line.starts_with('#')).collect();
+    let missing = (cases.len() < CASES).then(|| format!("{} of at least {CASES} cases", cases.len()));
+    results.expect("the writer's cases are whole", missing);
+    for case in cases {
+        results.expect(&format!("writer: {case}"), writing::case_problem(case));
+    }
 }
 
 // ---- Random inputs
@@ -324,6 +362,9 @@ fn compare_some(pool: &Pool, mut random: Random, times: u64) -> Tally {
     for _ in 0..LISTS * times {
         compare_list(&mut tally, pool, &mut random);
     }
+    for _ in 0..WRITES * times {
+        compare_write(&mut tally, pool, &mut random);
+    }
     tally
 }
 
@@ -345,6 +386,27 @@ fn compare_line(tally: &mut Tally, docket: &[u8]) {
         tally.differ(docket, format!("printed: {printed:?}, second implementation: {line:?}"));
     }
     tally.lines += 1;
+}
+
+/// Writes the parts of a docket, as they are and then changed.
+fn compare_write(tally: &mut Tally, pool: &Pool, random: &mut Random) {
+    let docket = pool.input(random);
+    match writing::write_again(&docket) {
+        Ok(written) => tally.writes.again += u64::from(written),
+        Err(problem) => return tally.differ(&docket, format!("its parts: {problem}")),
+    }
+    let other = pool.draw(random).bytes();
+    let sections = second::sections(&docket).or(second::sections(&other));
+    let changed = parts::changed(sections.unwrap_or_default(), random);
+    let parts = parts::slices(&changed);
+    let room = parts::room(&parts, random);
+    match writing::write_both(parts, &writing::old_bytes(room)) {
+        Ok((said, _)) => tally.writes.count(parts, room, &said),
+        Err(problem) => {
+            let input = writing::text(parts, room);
+            tally.differences.push(format!("parts {input}\n  {problem}"));
+        }
+    }
 }
 
 /// A list of calls on one group: each is lent the counts that the one before left.

@@ -38,6 +38,21 @@ extern "C" {
         rests: *mut u64,
     ) -> u64;
     fn docket_figures(docket: *const u8, docket_len: usize, figures: *mut u64) -> u64;
+    fn docket_write(
+        states: *const u8,
+        states_len: usize,
+        rules: *const u8,
+        rules_len: usize,
+        layers: *const u8,
+        layers_len: usize,
+        nodes: *const u8,
+        nodes_len: usize,
+        leaves: *const u8,
+        leaves_len: usize,
+        out: *mut u8,
+        out_len: usize,
+        total: *mut u64,
+    ) -> u64;
 }
 
 /// What docket_check returns: 0, or the number times 65,536 plus the place.
@@ -71,5 +86,17 @@ pub fn say(docket: &[u8], counts: &mut [u32], call: Call) -> Said {
             Call::Run(limit) => docket_run(d, n, c, m, limit, first, second),
         }
     };
+    Said { code, answers }
+}
+
+/// What docket_write says; the output is lent as it is.
+pub fn write(parts: [&[u8]; 5], output: &mut [u8]) -> Said {
+    let [s, r, l, n, k] = parts.map(|part| part.as_ptr());
+    let [s_len, r_len, l_len, n_len, k_len] = parts.map(|part| part.len());
+    let (d, d_len) = (output.as_mut_ptr(), output.len());
+    let mut answers = [UNTOUCHED; 2];
+    let total = &mut answers[0];
+    // SAFETY: each pointer and length are those of one slice, the output and the answer are writable, and none overlap.
+    let code = unsafe { docket_write(s, s_len, r, r_len, l, l_len, n, n_len, k, k_len, d, d_len, total) };
     Said { code, answers }
 }

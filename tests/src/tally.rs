@@ -1,8 +1,14 @@
 //! What the compared inputs were, so that the comparison can show that it reached every test.
 
+mod writes;
+
 use crate::calls::{Call, Said};
 use second::Refusal;
 use std::collections::{BTreeMap, BTreeSet};
+use writes::Writes;
+
+/// Places by the number of their refusal.
+type Places = BTreeMap<u32, BTreeSet<u32>>;
 
 #[derive(Default)]
 pub struct Tally {
@@ -13,7 +19,7 @@ pub struct Tally {
     pub meetings: u64,
     pub lines: u64,
     /// The places met with each refusal's number.
-    pub places: BTreeMap<u32, BTreeSet<u32>>,
+    pub places: Places,
     /// Nodes by the number of the refusal that they got, 0 for all nodes of accepted dockets, and by their kind, 8 for
     /// every unknown one.
     pub kinds: BTreeMap<(u32, u8), u64>,
@@ -25,6 +31,7 @@ pub struct Tally {
     pub outcome_steps: u64,
     /// Runs that made a meeting, of tables in which a pair has several rules.
     pub outcome_runs: u64,
+    pub writes: Writes,
     /// What was said to the inputs on which the two implementations differ.
     pub differences: Vec<String>,
 }
@@ -85,8 +92,7 @@ impl Tally {
     }
 
     pub fn differ(&mut self, docket: &[u8], what: String) {
-        let hex: String = docket.iter().map(|byte| format!("{byte:02x}")).collect();
-        self.differences.push(format!("docket {hex}\n  {what}"));
+        self.differences.push(format!("docket {}\n  {what}", hex(docket)));
     }
 
     pub fn merge(&mut self, other: Tally) {
@@ -110,25 +116,15 @@ impl Tally {
         }
         self.outcome_steps += other.outcome_steps;
         self.outcome_runs += other.outcome_runs;
+        self.writes.merge(other.writes);
         self.differences.extend(other.differences);
     }
 
     /// What the inputs failed to reach: several places with every refusal that has them, some last places, every kind of
-    /// node and some moduli, half of the dockets past tests 1 to 8, a tenth of them accepted, and tables in which a pair
-    /// has several rules.
+    /// node and some moduli, half of the dockets past tests 1 to 8, a tenth of them accepted, tables in which a pair has
+    /// several rules, and what the writer can say.
     pub fn not_reached(&self) -> Vec<String> {
-        let mut missing = vec![];
-        for (number, least) in LEAST_PLACES {
-            let met = self.places.get(&number).map_or(0, BTreeSet::len);
-            if met < least {
-                missing.push(format!("refusal {number}: {met} places of at least {least}"));
-            }
-        }
-        for (number, place) in LAST_PLACES {
-            if !self.places.get(&number).is_some_and(|places| places.contains(&place)) {
-                missing.push(format!("refusal {number} at place {place}"));
-            }
-        }
+        let mut missing = places_not_reached(&self.places, &LEAST_PLACES, &LAST_PLACES);
         if 2 * self.pass_shape < self.dockets {
             missing.push("fewer than half of the dockets pass tests 1 to 8".into());
         }
@@ -137,6 +133,7 @@ impl Tally {
         }
         missing.extend(self.nodes_not_reached());
         missing.extend(self.outcomes_not_reached());
+        missing.extend(self.writes.not_reached());
         missing
     }
 
@@ -169,6 +166,28 @@ impl Tally {
         let text = |(what, met, least)| format!("several rules for a pair: {met} {what} of at least {least}");
         counts.into_iter().map(text).collect()
     }
+}
+
+/// The refusals that were met at fewer places than these, and those that were not met at these.
+fn places_not_reached(places: &Places, least: &[(u32, usize)], last: &[(u32, u32)]) -> Vec<String> {
+    let mut missing = vec![];
+    for &(number, least) in least {
+        let met = places.get(&number).map_or(0, BTreeSet::len);
+        if met < least {
+            missing.push(format!("refusal {number}: {met} places of at least {least}"));
+        }
+    }
+    for (number, place) in last {
+        if !places.get(number).is_some_and(|places| places.contains(place)) {
+            missing.push(format!("refusal {number} at place {place}"));
+        }
+    }
+    missing
+}
+
+/// Bytes as two digits each.
+pub fn hex(bytes: &[u8]) -> String {
+    bytes.iter().map(|byte| format!("{byte:02x}")).collect()
 }
 
 /// Whether a pair of states has several rules, in a docket that passes tests 1 to 7.

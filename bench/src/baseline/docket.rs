@@ -22,10 +22,27 @@ pub struct Docket<'a> {
 impl<'a> Docket<'a> {
     pub fn read(file: &'a [u8]) -> Result<Self, Refusal> {
         let docket = Self::sections(file)?;
-        docket.state_test()?;
-        let used = docket.rule_tests()?;
-        docket.layer_test(used)?;
+        docket.table_tests()?;
         Ok(docket)
+    }
+
+    /// The bytes of the five sections, whose lengths fit the counts.
+    pub fn of([states, rules, weights, nodes, leaves]: [&'a [u8]; 5], layers: usize) -> Self {
+        Docket {
+            states,
+            rules: rules.as_chunks().0,
+            layers,
+            weights: weights.as_chunks().0,
+            nodes: nodes.as_chunks().0,
+            leaf_weights: leaves.as_chunks().0,
+        }
+    }
+
+    /// Tests 5 to 8.
+    pub fn table_tests(&self) -> Result<(), Refusal> {
+        self.state_test()?;
+        let used = self.rule_tests()?;
+        self.layer_test(used)
     }
 
     /// Tests 1 to 4.
@@ -41,11 +58,7 @@ impl<'a> Docket<'a> {
             return refuse(2, 0);
         }
         let [s, r, l, n, k] = [field(1), field(2), field(3), field(4), field(5)];
-        for (place, limits) in COUNTS.iter().enumerate() {
-            if !limits.contains(&field(place + 1)) || (place == 2 && (l == 0) != (r == 0)) {
-                return refuse(3, place);
-            }
-        }
+        count_test([s, r, l, n, k])?;
         let lengths = [s, 5 * r, 4 * s * l, 12 * n, 4 * s * k];
         let mut end = 24;
         for place in 0..=5 {
@@ -58,14 +71,7 @@ impl<'a> Docket<'a> {
         let (rules, body) = body.split_at(lengths[1]);
         let (weights, body) = body.split_at(lengths[2]);
         let (nodes, leaves) = body.split_at(lengths[3]);
-        Ok(Docket {
-            states,
-            rules: rules.as_chunks().0,
-            layers: l,
-            weights: weights.as_chunks().0,
-            nodes: nodes.as_chunks().0,
-            leaf_weights: leaves.as_chunks().0,
-        })
+        Ok(Self::of([states, rules, weights, nodes, leaves], l))
     }
 
     /// Test 5.
@@ -142,4 +148,15 @@ impl<'a> Docket<'a> {
             .rev()
             .fold(0, |set, state| set << 1 | u64::from(state & bit != 0))
     }
+}
+
+/// Test 3.
+pub fn count_test(counts: [usize; 5]) -> Result<(), Refusal> {
+    let [_, rules, layers, _, _] = counts;
+    for (place, limits) in COUNTS.iter().enumerate() {
+        if !limits.contains(&counts[place]) || (place == 2 && (layers == 0) != (rules == 0)) {
+            return refuse(3, place);
+        }
+    }
+    Ok(())
 }

@@ -1,13 +1,15 @@
-//! The check and the machine by the same methods as the proved implementation, written in Rust with the same care for
-//! speed: the file is read in place, sets of states and of rules are words of 64 bits, facts are a plain struct that is
-//! copied to each child, every search stops at its first find, and nothing is allocated.
+//! The check, the machine and the writer by the same methods as the proved implementation, written in Rust with the
+//! same care for speed: the file is read in place, sets of states and of rules are words of 64 bits, facts are a plain
+//! struct that is copied to each child, every search stops at its first find, and nothing is allocated.
 
 mod docket;
 mod ladder;
 mod machine;
 mod tree;
+mod writer;
 
 use docket::Docket;
+pub use writer::write;
 
 /// Number and place of a refusal.
 #[derive(Clone, Copy, Debug, PartialEq, Eq)]

@@ -1,15 +1,19 @@
 // What C calls. A slice is a pointer and a length; include/docket.h has the prototypes. No function has a requires: C
 // cannot meet one. A refused call neither reads nor writes behind its answer pointers.
 ghost use mathlib.Core.Path.{_≡_};
+ghost use lib.ListN.{length};
 ghost use Rattle.theory.specs.Machine.{step as stepCall, run as runCall};
+ghost use Rattle.format.specs.Format.{sections};
 ghost use Rattle.checker.specs.Check.{checkOf};
+ghost use Rattle.writer.specs.Write.{writeOf, outputOf};
 ghost use Rattle.machine.specs.Calls.{startOf, enabledOf, terminalOf, verdictOf, replyOf, countsOf};
-ghost use Rattle.codes.specs.Codes.{checkCode, checkFigures, startCode, yesNoCode, yesNoValue, verdictCode, verdictValue};
-ghost use Rattle.codes.specs.Codes.{replyCode, replySteps, replyRests};
+ghost use Rattle.codes.specs.Codes.{checkCode, checkFigures, writeCode, writeTotal, startCode, yesNoCode, yesNoValue};
+ghost use Rattle.codes.specs.Codes.{verdictCode, verdictValue, replyCode, replySteps, replyRests};
 use checker::Checked;
 use machine::Ran;
 use machine::Verdict;
 use machine::YesNo;
+use writer::Written;
 
 // The check of a docket: 0 for accepted, else the refusal's number times 65,536 plus its place.
 #[no_mangle]
@@ -35,7 +39,42 @@ pub extern "C" fn docket_figures(docket: &[u8], figures: &mut [u64; 6]) -> u64
     }
 }
 
-// The start test: 0 where it passes, else the refusal's number times 4,294,967,296 plus its place, as with every call below.
+// Writes the docket of the five sections to the beginning of the output. Returns 0, and total is the docket's length; or the
+// refusal, its number times 4,294,967,296 plus its place, as with every call below, and total is as it was.
+#[no_mangle]
+pub extern "C" fn docket_write(
+    states: &[u8],
+    rules: &[u8],
+    layers: &[u8],
+    nodes: &[u8],
+    leaves: &[u8],
+    out: &mut [u8],
+    total: &mut u64,
+) -> u64
+    ensures code { λ r.
+        let x =
+        sections (now (states .entry)) (now (rules .entry)) (now (layers .entry)) (now (nodes .entry)) (now (leaves .entry)) in
+        ⌜ r ≡ writeCode (writeOf x (length (now (out .entry)))) ⌝ }
+    ensures output { λ _.
+        let x =
+        sections (now (states .entry)) (now (rules .entry)) (now (layers .entry)) (now (nodes .entry)) (now (leaves .entry)) in
+        ⌜ now (out .exit) ≡ outputOf x (now (out .entry)) ⌝ }
+    ensures total { λ _.
+        let x =
+        sections (now (states .entry)) (now (rules .entry)) (now (layers .entry)) (now (nodes .entry)) (now (leaves .entry)) in
+        ⌜ now (total .exit) ≡ writeTotal (now (total .entry)) (writeOf x (length (now (out .entry)))) ⌝ }
+{
+    let a = writer::write(states, rules, layers, nodes, leaves, out);
+    match a {
+        Written::Total(n) => {
+            *total = n as u64;
+            0
+        }
+        Written::Refused(r) => codes::call_refusal(r),
+    }
+}
+
+// The start test: 0 where it passes, else the refusal.
 #[no_mangle]
 pub extern "C" fn docket_start_test(docket: &[u8], counts: &[u32]) -> u64
     ensures { λ r. ⌜ r ≡ startCode (startOf (now (docket .entry)) (now (counts .entry))) ⌝ }

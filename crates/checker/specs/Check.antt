@@ -10,7 +10,7 @@ use Rattle.format.specs.Format.{Sections, sectionsOf, layerWeight, protocolOf, 
 use Rattle.format.specs.declared.Sizes.{Sizes}
 use Rattle.format.specs.declared.Header.{Header}
 use Rattle.shape.specs.Shape.{refusal, shapeOf, byShape}
-use Rattle.leaf.specs.Leaf.{badLeaf}
+use Rattle.leaf.specs.Leaf.{leafTest}
 use Rattle.checker.specs.declared.Summary.{Summary}
 use Rattle.checker.specs.declared.Checked.{Checked}
 use Rattle.checker.specs.declared.Checked.the-variants.{Accepted, Refused}
@@ -32,7 +32,7 @@ module _ (z : Sizes) (x : Sections) where
   certificateTests =
       record { number = 9; places = z .rules; bad = λ r. not (lowersAt P L w r) }
       ∷ record { number = 10; places = z .rules; bad = λ s. not (handoverAt P L s) }
-      ∷ record { number = 11; places = z .leaves; bad = badLeaf z (x .leaves) }
+      ∷ leafTest z (x .leaves)
       ∷ []
 
   -- Tests 12 and 13: the walk of the tree, which refutes that from one start run 1 ends with a state of output 0 and run 2 with

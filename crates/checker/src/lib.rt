@@ -1,7 +1,6 @@
 // The check of a docket: tests 1 to 13 in order. Any bytes may be given.
 ghost use mathlib.Core.Path.{_≡_};
-ghost use Rattle.format.specs.Format.{sectionsOf};
-ghost use Rattle.format.specs.Code.{sections};
+ghost use Rattle.format.specs.Format.{sections, sectionsOf};
 ghost use Rattle.shape.specs.Sound.{SoundShape};
 ghost use Rattle.ladder.specs.Code.{SoundPairs};
 ghost use Rattle.node.specs.Code.{SoundRules};

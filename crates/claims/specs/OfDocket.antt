@@ -107,6 +107,11 @@ module _ (b : List ℕ) (h : Header) where
       let w = weightIn b h (layersIn b h .of r) in
       w (P .p′ r) + w (P .q′ r) < w (P .p r) + w (P .q r)
 
+  -- Every leaf weight, of leaf l and state s at end e + 1, is -10,000 to 10,000; endWeight is the weight plus 10,000.
+  abbrev pub LeafWeights : Type 0
+  LeafWeights = (l e s : ℕ) → l < h .sizes .leaves → e < 2 → s < h .sizes .states
+      → endWeight (h .sizes) (sectionsOf b h .leaves) l e s ≤ 20000
+
   -- The tree, and what it refutes: that from one start run 1 ends with a state of output 0 and run 2 with a state of output 1.
   abbrev pub treeIn : Tree
   treeIn = treeOf (h .sizes) (sectionsOf b h .nodes)
@@ -123,10 +128,8 @@ module _ (b : List ℕ) (h : Header) where
     pub lowering : (r : ℕ) → r < h .sizes .rules → Lowers r
     -- Test 10, handover: no group, of any size, breaks it.
     pub handover : (s : ℕ) → s < h .sizes .rules → Broken (protocolIn b h) (layersIn b h) s → ⊥
-    -- Test 11: every leaf weight, of leaf l and state s at end e + 1, is -10,000 to 10,000; endWeight is the weight plus
-    -- 10,000.
-    pub leaf-weights : (l e s : ℕ) → l < h .sizes .leaves → e < 2 → s < h .sizes .states
-        → endWeight (h .sizes) (sectionsOf b h .leaves) l e s ≤ 20000
+    -- Test 11.
+    pub leaf-weights : LeafWeights
     -- Tests 12 and 13: the root's subtree, on fresh facts, ends behind the last node.
     pub tree : TreeStands (protocolIn b h) assumed treeIn
 

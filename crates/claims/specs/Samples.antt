@@ -1,34 +1,43 @@
 -- The samples P1 to P12 of document 01, and samples of document 02, by computation on the bytes.
-use mathlib.Core.Path.{_≡_, refl}
+use mathlib.Core.Path.{_≡_, refl, subst}
 use mathlib.Core.Bool.{Bool, true, false}
-use mathlib.Core.List.{List, [], _∷_}
+use mathlib.Core.List.{List, [], _∷_, _++_}
 use Prim.Native.Nat.{ℕ, _≤_}
-use lib.ListN.{take, set}
+use lib.Dec.{ltb}
+use lib.ListN.{length, getD, take, drop, set, replicate}
+use Rattle.theory.specs.Below.{allBelow}
 use Rattle.theory.specs.Ladder.{spreads}
 use Rattle.theory.specs.Tree.{widest}
 use Rattle.theory.specs.Machine.{run, ran}
 use Rattle.shape.specs.Shape.{refusal}
 use Rattle.theory.specs.Unfold.{walking, calling}
-use Rattle.format.specs.Format.{headerOf}
+use Rattle.format.specs.Format.{headerOf, Sections}
 use Rattle.format.specs.Samples.{broadcast, majority, twoOutcomes, parity}
 use Rattle.shape.specs.Samples.{shaping}
 use Rattle.leaf.specs.Leaf.{badLeaf}
 use Rattle.checker.specs.Check.{sectionsCheck, checkOf}
 use Rattle.checker.specs.declared.Checked.{Checked}
 use Rattle.checker.specs.declared.Checked.the-variants.{Accepted, Refused}
+use Rattle.writer.specs.Write.{writeOf, outputOf}
+use Rattle.writer.specs.Write.Laws.{bytes-are}
+use Rattle.writer.specs.Samples.{writing, parts}
+use Rattle.writer.specs.declared.Written.{Written}
+use Rattle.writer.specs.declared.Written.the-variants as written
 use Rattle.machine.specs.Calls.{verdictAnswer, verdictOf, replyOf, countsOf}
 use Rattle.machine.specs.declared.Verdict.the-variants.{Agreed}
-use Rattle.claims.specs.OfDocket.{Demand3}
+use Rattle.claims.specs.OfDocket.{Rules, Demand3}
+use Rattle.claims.specs.OfWriter.{Readable, Wrote}
 use Rattle.claims.specs.Claims.Proved.{claims}
 use Rattle.claims.specs.Dockets.OneLayer.{one-layer}
 use Rattle.claims.specs.Dockets.{cut, longer, exchanged, withoutAbsent, oneLayer}
 
 -- A sample: what the check says of a docket; what a run with the greatest limit does from given counts; what the check says
--- whatever the weights.
+-- whatever the weights; what the writer says of sections, and what it leaves in the output.
 pub data Sample : Type 0 where
   says : List ℕ → Checked → Sample
   rests : List ℕ → List ℕ → ℕ → List ℕ → Bool → Sample
   refuses : (ℕ → ℕ → ℕ → ℕ → List ℕ) → ℕ → Sample
+  writes : Sections → List ℕ → Written → List ℕ → Sample
 
 abbrev pub Holds : Sample → Type 0
 -- The check of b answers a.
@@ -41,6 +50,8 @@ Holds (rests b c n d v) =
 Holds (refuses b n) =
     (x y z t : ℕ) → x ≤ 1000000 → y ≤ 1000000 → z ≤ 1000000 → t ≤ 1000000
     → (k : ℕ) × (checkOf (b x y z t) ≡ Refused (refusal n k))
+-- The writer, lent the sections x and the output out, answers a and leaves d.
+Holds (writes x out a d) = (writeOf x (length out) ≡ a) × (outputOf x out ≡ d)
 
 abbrev pub AllHold : List Sample → Type 0
 AllHold [] = Unit {0}
@@ -66,7 +77,8 @@ samples =
 
 -- Samples of document 02. Job 1: a pair with two outcomes, and the same with rule 1 equal to rule 0. Job 2: parity; then with
 -- the moduli 3, 1, 1,001 (3 × 256 + 233) and 2 + 2^32 at node 12; and with argument 2 at node 7, where O is not known to hold
--- exactly one agent.
+-- exactly one agent. Job 3: the sections of broadcast, written into 101 bytes and into 98; and with the last byte of a node cut, where 97
+-- bytes are too few as well.
 abbrev pub requested : List Sample
 requested =
     says twoOutcomes (Accepted (record { states = 3; rules = 3; layers = 1; nodes = 7; spreads = 1; widest = 2 }))  -- Job 1
@@ -77,11 +89,14 @@ requested =
     ∷ says (set (set parity 249 233) 250 3) (Refused (refusal 12 12))  -- Job 2
     ∷ says (set parity 253 1) (Refused (refusal 12 12))  -- Job 2
     ∷ says (set parity 187 2) (Refused (refusal 13 12))  -- Job 2
+    ∷ writes (parts broadcast) (replicate 101 170) (written.Total 99) (broadcast ++ 170 ∷ 170 ∷ [])  -- Job 3
+    ∷ writes (parts broadcast) (replicate 98 170) (written.Refused (refusal 30 0)) (replicate 98 170)  -- Job 3
+    ∷ writes (parts (take 98 broadcast)) (replicate 97 170) (written.Refused (refusal 31 3)) (replicate 97 170)  -- Job 3
     ∷ []
 
 -- The names that samples unfold.
 unfoldable sampling : ℕ
-unfolding shaping walking calling badLeaf sectionsCheck checkOf replyOf countsOf verdictOf verdictAnswer
+unfolding writing shaping walking calling badLeaf sectionsCheck checkOf replyOf countsOf verdictOf verdictAnswer
 sampling = 0
 
 pub samples-hold : AllHold samples
@@ -90,7 +105,7 @@ samples-hold = (refl, (refl, (refl, (refl, (refl, (refl, (refl, ((refl, refl, re
 
 pub requested-hold : AllHold requested
 unfolding sampling
-requested-hold = (refl, (refl, (refl, (refl, (refl, (refl, (refl, (refl, tt))))))))
+requested-hold = (refl, (refl, (refl, (refl, (refl, (refl, (refl, (refl, ((refl, refl), ((refl, refl), ((refl, refl), tt)))))))))))
 
 -- So demand 3 holds of a docket in which a pair has two outcomes: what it says of rest and verdict is not empty there.
 pub outcomes-settle : (c : List ℕ) → Demand3 twoOutcomes (headerOf twoOutcomes) c
@@ -99,3 +114,19 @@ outcomes-settle = claims .of-docket twoOutcomes .demand-3 (_, requested-hold .0)
 -- And of a docket whose tree has a node of kind 7.
 pub parity-settles : (c : List ℕ) → Demand3 parity (headerOf parity) c
 parity-settles = claims .of-docket parity .demand-3 (_, requested-hold .1 .1 .0)
+
+-- What the writer wrote in the sample reads as the sections of broadcast.
+pub broadcast-reads : Wrote (parts broadcast) (replicate 101 170) 99
+broadcast-reads = claims .of-writer .writes (parts broadcast) (replicate 101 170) 99 (requested-hold .1 .1 .1 .1 .1 .1 .1 .1 .0 .0)
+
+broadcast-below : allBelow (length broadcast) (λ k. ltb (getD broadcast k 0) 256) ≡ true
+unfolding sampling
+broadcast-below = refl
+
+-- Broadcast is accepted, so its sections are written as its bytes into every output that has room for them.
+pub broadcast-again : (out : List ℕ) → 99 ≤ length out → outputOf (parts broadcast) out ≡ broadcast ++ drop 99 out
+broadcast-again out fits =
+    let rules = claims .of-docket broadcast .demand-2 .exact .0 (_, samples-hold .0) .1 in
+    let keeps = subst (Rules broadcast) (rules .shape .header) rules in
+    let readable : Readable broadcast (headerOf broadcast) = record { shape = keeps .shape; leaf-weights = keeps .leaf-weights } in
+    claims .of-writer .writes-again broadcast (bytes-are broadcast broadcast-below) (headerOf broadcast) readable out fits .1

@@ -1,1 +1,1 @@
-// What is proved of dockets: definitions and theorems in specs/, and no code.
+// What is proved of dockets and of the writer: definitions and theorems in specs/, and no code.

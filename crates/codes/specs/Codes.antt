@@ -7,6 +7,8 @@ use Rattle.shape.specs.Shape.{refusal}
 use Rattle.shape.specs.declared.Refusal.{Refusal}
 use Rattle.checker.specs.declared.Checked.{Checked}
 use Rattle.checker.specs.declared.Checked.the-variants as checked
+use Rattle.writer.specs.declared.Written.{Written}
+use Rattle.writer.specs.declared.Written.the-variants as writing
 use Rattle.machine.specs.declared.Started.{Started}
 use Rattle.machine.specs.declared.Started.the-variants as started
 use Rattle.machine.specs.declared.YesNo.{YesNo}
@@ -33,6 +35,11 @@ abbrev pub checkCode : Checked → ℕ
 checkCode (checked.Accepted f) = 0
 checkCode (checked.Refused r) = code r
 
+-- The writer.
+abbrev pub writeCode : Written → ℕ
+writeCode (writing.Total n) = 0
+writeCode (writing.Refused r) = callCode r
+
 abbrev pub startCode : Started → ℕ
 startCode started.Start = 0
 startCode (started.Refused r) = callCode r
@@ -58,6 +65,11 @@ abbrev pub checkFigures : List ℕ → Checked → List ℕ
 checkFigures old (checked.Accepted f) =
     f .states ∷ f .rules ∷ f .layers ∷ f .nodes ∷ f .spreads ∷ f .widest ∷ []
 checkFigures old (checked.Refused r) = old
+
+-- The total length of the docket that was written.
+abbrev pub writeTotal : ℕ → Written → ℕ
+writeTotal old (writing.Total n) = n
+writeTotal old (writing.Refused r) = old
 
 -- 1 for yes, 0 for no.
 abbrev pub yesNoValue : ℕ → YesNo → ℕ

@@ -3,7 +3,7 @@ use mathlib.Core.Path.{_≡_}
 use mathlib.Core.Bool.{Bool}
 use mathlib.Core.List.{List}
 use Prim.Native.Nat.{ℕ, _<_}
-use Rattle.format.specs.Format.{Sections, isOutput, isInput}
+use Rattle.format.specs.Format.{isOutput, isInput}
 use Rattle.format.specs.declared.Flag.{Flag}
 use Rattle.format.specs.declared.Flag.the-variants.{Output, Input}
 use Rattle.format.specs.declared.Sizes.{Sizes}
@@ -17,7 +17,3 @@ pub record Value (m v r : ℕ) : Type 0 where
 abbrev pub hasFlag : Sizes → List ℕ → Flag → ℕ → Bool
 hasFlag z states Output s = isOutput z states s
 hasFlag z states Input s = isInput z states s
-
--- Sections from the slices that a function is lent.
-abbrev pub sections : List ℕ → List ℕ → List ℕ → List ℕ → List ℕ → Sections
-sections a b c d e = record { states = a; rules = b; layers = c; nodes = d; leaves = e }

@@ -29,6 +29,10 @@ pub record Sections : Type 0 where
   pub nodes : List ℕ
   pub leaves : List ℕ
 
+-- The sections that a function is lent as five slices.
+abbrev pub sections : List ℕ → List ℕ → List ℕ → List ℕ → List ℕ → Sections
+sections a b c d e = record { states = a; rules = b; layers = c; nodes = d; leaves = e }
+
 -- How many bytes each section has.
 module _ (z : Sizes) where
   abbrev pub statesLength : ℕ

@@ -7,9 +7,8 @@ use lib.Dec.{ltb}
 use lib.ListN.{length}
 use Rattle.theory.specs.Below.{anyBelow}
 use Rattle.theory.specs.Judge.{judge}
-use Rattle.format.specs.Format.{statesLength, rulesLength, layersLength, nodesLength, leavesLength, sectionsOf}
+use Rattle.format.specs.Format.{statesLength, rulesLength, layersLength, nodesLength, leavesLength, sections, sectionsOf}
 use Rattle.format.specs.Format.{isInput, ruleP, ruleQ, ruleP′, ruleQ′, ruleOf}
-use Rattle.format.specs.Code.{sections}
 use Rattle.format.specs.declared.Sizes.{Sizes}
 use Rattle.format.specs.declared.Header.{Header}
 use Rattle.format.specs.declared.Rule.{Rule}

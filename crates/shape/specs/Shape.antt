@@ -23,6 +23,10 @@ refusal n k = record { number = n; place = k }
 
 -- ---- Tests of the header
 
+-- The k-th of a list of tests.
+abbrev pub nth : List Bool → ℕ → Bool
+nth ts k = getD ts k false
+
 -- n is outside least to greatest.
 abbrev pub outside : ℕ → ℕ → ℕ → Bool
 outside least greatest n = ltb n least || ltb greatest n
@@ -38,6 +42,10 @@ countFaults z =
     ∷ ltb 128 (z .leaves)
     ∷ []
 
+-- Test 3, over the counts.
+abbrev pub countTest : Sizes → Test
+countTest z = record { number = 3; places = 5; bad = nth (countFaults z) }
+
 -- Test 4: the offsets, and the total length, that are not where they belong: each section begins where the one before ends.
 abbrev pub offsetFaults : Header → List Bool
 offsetFaults h =
@@ -48,10 +56,6 @@ offsetFaults h =
     ∷ not (eqb (h .at .leaves) (h .at .nodes + nodesLength (h .sizes)))
     ∷ not (eqb (h .at .total) (h .at .leaves + leavesLength (h .sizes)))
     ∷ []
-
--- The k-th of a list of tests.
-abbrev pub nth : List Bool → ℕ → Bool
-nth ts k = getD ts k false
 
 -- ---- Properties of one record, of which tests 5 to 8 are made
 
@@ -124,7 +128,7 @@ abbrev pub shapeTests : List ℕ → Header → List Test
 shapeTests b h =
     only 1 (ltb (length b) 24 || not (eqb (length b) (h .at .total)))
     ∷ only 2 (not (eqb (h .sizes .version) 1))
-    ∷ record { number = 3; places = 5; bad = nth (countFaults (h .sizes)) }
+    ∷ countTest (h .sizes)
     ∷ record { number = 4; places = 6; bad = nth (offsetFaults h) }
     ∷ sectionTests (h .sizes) (sectionsOf b h)
 

@@ -28,7 +28,7 @@ pub enum Shape {
     Refused(Refusal),
 }
 
-// What tests 5 to 8, of the sections, find.
+// What tests in a row find: nothing, or the refusal.
 pub enum Tested {
     Passed,
     Failed(Refusal),
@@ -49,7 +49,7 @@ pub enum Property {
 }
 
 // The index of the first that is true, or 6.
-fn first_true(a: bool, b: bool, c: bool, d: bool, e: bool, f: bool) -> u32
+pub fn first_true(a: bool, b: bool, c: bool, d: bool, e: bool, f: bool) -> u32
     ensures { λ r. ⌜ r ≡ firstBelow 6 (nth (a ∷ b ∷ c ∷ d ∷ e ∷ f ∷ [])) ⌝ }
 {
     if a {
@@ -74,7 +74,7 @@ fn first_true(a: bool, b: bool, c: bool, d: bool, e: bool, f: bool) -> u32
 }
 
 // Test 3: the first count outside its limits, or 5.
-fn count_fault(z: Sizes) -> u32
+pub fn count_fault(z: Sizes) -> u32
     ensures { λ r. ⌜ r ≡ firstBelow 5 (nth (countFaults z)) ⌝ }
 {
     first_true(
@@ -297,7 +297,7 @@ fn layer_fault(rules: &[u8], layers: &[u8], z: Sizes) -> u16
 }
 
 // Tests 5 to 8.
-fn section_tests(states: &[u8], rules: &[u8], layers: &[u8], z: Sizes) -> Tested
+pub fn section_tests(states: &[u8], rules: &[u8], layers: &[u8], z: Sizes) -> Tested
     ensures { λ r. ⌜ r ≡ testedOf z (now (states .entry)) (now (rules .entry)) (now (layers .entry)) ⌝ }
 {
     let place = state_fault(states, z);

@@ -1,6 +1,7 @@
 -- `capi::docket_can_act` meets its contract: the numbers are those of the call's answer.
 use borrow.Author.Needs.{needs}
-use Rattle.codes.specs.Codes.Laws.{questions}
+use Rattle.codes.specs.Codes.{yesNoCode, yesNoValue}
+use Rattle.codes.specs.Codes.Laws.{told, told-at}
 use Rattle.capi.proofs.docket_can_act.Statement.{statement}
 use Rattle.capi.proofs.docket_can_act.Tie as tie
 
@@ -20,10 +21,10 @@ call-refusal-requires : tie.Need-call-refusal-requires
 call-refusal-requires c κs = search needs
 
 returns : tie.Need-returns
-returns c = search (questions, needs)
+returns c = (search (told yesNoCode, needs), search (told-at yesNoValue, needs))
 
 returns-2 : tie.Need-returns-2
-returns-2 c = search (questions, needs)
+returns-2 c = (search (told yesNoCode, needs), search (told-at yesNoValue, needs))
 
 pub docket-can-act-spec : {M : Type 1} → statement M
 docket-can-act-spec =

@@ -1,6 +1,7 @@
 -- `capi::docket_figures` meets its contract: the numbers are those of the call's answer.
 use borrow.Author.Needs.{needs}
-use Rattle.codes.specs.Codes.Laws.{figures}
+use Rattle.codes.specs.Codes.{checkCode, checkFigures}
+use Rattle.codes.specs.Codes.Laws.{told, told-at}
 use Rattle.capi.proofs.docket_figures.Statement.{statement}
 use Rattle.capi.proofs.docket_figures.Tie as tie
 
@@ -20,10 +21,10 @@ check-refusal-requires : tie.Need-check-refusal-requires
 check-refusal-requires c κs = search needs
 
 returns : tie.Need-returns
-returns c = search (figures, needs)
+returns c = (search (told checkCode, needs), search (told-at checkFigures, needs))
 
 returns-2 : tie.Need-returns-2
-returns-2 c = search (figures, needs)
+returns-2 c = (search (told checkCode, needs), search (told-at checkFigures, needs))
 
 pub docket-figures-spec : {M : Type 1} → statement M
 docket-figures-spec =

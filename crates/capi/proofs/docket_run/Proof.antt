@@ -1,6 +1,8 @@
 -- `capi::docket_run` meets its contract: the numbers are those of the call's answer.
 use borrow.Author.Needs.{needs}
-use Rattle.codes.specs.Codes.Laws.{runs}
+use Rattle.machine.specs.Code.{replyOfRun}
+use Rattle.codes.specs.Codes.{replyCode, replySteps, replyRests}
+use Rattle.codes.specs.Codes.Laws.{told-by, told-by-at}
 use Rattle.capi.proofs.docket_run.Statement.{statement}
 use Rattle.capi.proofs.docket_run.Tie as tie
 
@@ -26,13 +28,19 @@ same-length : tie.Need-same-length
 same-length c = search needs
 
 returns : tie.Need-returns
-returns c = (search (runs, needs), (search needs, (search (runs, needs), search (runs, needs))))
+returns c = (
+  search (told-by replyOfRun replyCode, needs),
+  (search needs, (search (told-by-at replyOfRun replySteps, needs), search (told-by-at replyOfRun replyRests, needs))),
+)
 
 same-length-2 : tie.Need-same-length-2
 same-length-2 c = search needs
 
 returns-2 : tie.Need-returns-2
-returns-2 c = (search (runs, needs), (search needs, (search (runs, needs), search (runs, needs))))
+returns-2 c = (
+  search (told-by replyOfRun replyCode, needs),
+  (search needs, (search (told-by-at replyOfRun replySteps, needs), search (told-by-at replyOfRun replyRests, needs))),
+)
 
 pub docket-run-spec : {M : Type 1} → statement M
 docket-run-spec =

@@ -1,6 +1,7 @@
 -- `capi::docket_step` meets its contract: the numbers are those of the call's answer.
 use borrow.Author.Needs.{needs}
-use Rattle.codes.specs.Codes.Laws.{reply-same}
+use Rattle.codes.specs.Codes.{replyCode}
+use Rattle.codes.specs.Codes.Laws.{told}
 use Rattle.capi.proofs.docket_step.Statement.{statement}
 use Rattle.capi.proofs.docket_step.Tie as tie
 
@@ -14,7 +15,7 @@ same-length : tie.Need-same-length
 same-length c = search needs
 
 returns : tie.Need-returns
-returns c = search (reply-same, needs)
+returns c = search (told replyCode, needs)
 
 pub docket-step-spec : {M : Type 1} → statement M
 docket-step-spec = tie.close (tie.spec step-requires step-code-requires same-length returns)

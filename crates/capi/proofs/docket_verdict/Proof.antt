@@ -1,6 +1,7 @@
 -- `capi::docket_verdict` meets its contract: the numbers are those of the call's answer.
 use borrow.Author.Needs.{needs}
-use Rattle.codes.specs.Codes.Laws.{verdicts}
+use Rattle.codes.specs.Codes.{verdictCode, verdictValue}
+use Rattle.codes.specs.Codes.Laws.{told, told-at}
 use Rattle.capi.proofs.docket_verdict.Statement.{statement}
 use Rattle.capi.proofs.docket_verdict.Tie as tie
 
@@ -23,13 +24,13 @@ call-refusal-requires : tie.Need-call-refusal-requires
 call-refusal-requires c κs = search needs
 
 returns : tie.Need-returns
-returns c = search (verdicts, needs)
+returns c = (search (told verdictCode, needs), search (told-at verdictValue, needs))
 
 returns-2 : tie.Need-returns-2
-returns-2 c = search (verdicts, needs)
+returns-2 c = (search (told verdictCode, needs), search (told-at verdictValue, needs))
 
 returns-3 : tie.Need-returns-3
-returns-3 c = search (verdicts, needs)
+returns-3 c = (search (told verdictCode, needs), search (told-at verdictValue, needs))
 
 pub docket-verdict-spec : {M : Type 1} → statement M
 docket-verdict-spec =

@@ -5,8 +5,7 @@ use Prim.Native.Nat.{ℕ}
 use Rattle.theory.specs.Below.{sumBelow}
 use Rattle.theory.specs.Ladder.{spread}
 use Rattle.theory.specs.Tree.{Walked, widest}
-use Rattle.format.specs.Format.{Sections, sectionsOf, layerWeight, protocolOf, layersOf, treeOf}
-use Rattle.format.specs.Code.{sections}
+use Rattle.format.specs.Format.{Sections, sections, sectionsOf, layerWeight, protocolOf, layersOf, treeOf}
 use Rattle.format.specs.declared.Sizes.{Sizes}
 use Rattle.format.specs.declared.Header.{Header}
 use Rattle.shape.specs.Sound.{SoundShape}

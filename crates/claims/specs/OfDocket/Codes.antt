@@ -43,7 +43,7 @@ use Rattle.claims.specs.OfDocket.Refusals.{refusal-is}
 -- ---- No refusal has the number 0, so none has the code 0
 
 -- n is one of the numbers ns, of which 0 is none.
-not-zero : (n : ℕ) (ns : List ℕ) → isOneOf n ns ≡ true → isOneOf 0 ns ≡ false → n ≡ 0 → ⊥
+pub not-zero : (n : ℕ) (ns : List ℕ) → isOneOf n ns ≡ true → isOneOf 0 ns ≡ false → n ≡ 0 → ⊥
 not-zero n ns p q e = true≢false (sym p ∙ ap (λ m. isOneOf m ns) e ∙ q)
 
 check-zero : (a : Checked) → isOneOf (checkNumber a) checkNumbers ≡ true → (checkCode a ≡ 0) → (f : _) × (a ≡ Accepted f)
@@ -75,11 +75,11 @@ reply-zero ns z (refused m j) p = (λ e _ _ _. not-zero m ns p z (omega arith), 
 -- ---- Places of the check
 
 -- No test has more than m places.
-abbrev PlacesMost : ℕ → List Test → Type 0
+abbrev pub PlacesMost : ℕ → List Test → Type 0
 PlacesMost m [] = Unit {0}
 PlacesMost m (t ∷ ts) = (t .places ≤ m) × PlacesMost m ts
 
-fits-place : (m n k : ℕ) (ts : List Test) → PlacesMost m ts → FirstFits ts n k → k < m
+pub fits-place : (m n k : ℕ) (ts : List Test) → PlacesMost m ts → FirstFits ts n k → k < m
 fits-place m n k [] p f = absurd (fits-none n k f)
 fits-place m n k (t ∷ ts) p f = ⊎-elim (λ h. omega (arith, h .1, p .0)) (λ s. fits-place m n k ts (p .1) (s .1)) (fits-split t ts n k f)
 

@@ -1,12 +1,12 @@
 -- A docket that is refused by 10 points at the lowest rule at which some group breaks the handover. Assumes nothing.
 use mathlib.Core.Path.{_≡_, refl, sym, ap, _∙_, subst}
 use mathlib.Core.Bool.{true, true≢false}
-use mathlib.Core.List.{List}
+use mathlib.Core.List.{List, [], _∷_}
 use mathlib.Core.Logic.{⊎-elim}
 use Prim.Native.Nat.{ℕ, _<_}
 use native.Mathlib.Omega.{arith}
 use borrow.Author.Tests.{not-true, not-false}
-use Rattle.theory.specs.Judge.Laws.{refused-by, fits-behind, fits-here, fits-none}
+use Rattle.theory.specs.Judge.Laws.{refused-by, fits-here, fits-none, fits-past}
 use Rattle.theory.specs.Ladder.{Broken}
 use Rattle.theory.specs.Ladder.Handover.{handoverAt-fails, handoverAt-exact}
 use Rattle.theory.specs.Subtree.Laws.{number-12-13}
@@ -37,8 +37,8 @@ certificate-10 b h s sound e =
     let formed = sound .sections .formed in
     ⊎-elim
     (λ f.
-    let g = fits-here _ _ 10 s (λ u. fits-none 10 s (fits-behind _ _ 10 s (λ q. absurd (omega arith)) u))
-    (fits-behind _ _ 10 s (λ q. absurd (omega arith)) f) in (
+    let g = fits-here _ _ 10 s (λ u. fits-none 10 s (fits-past (_ ∷ []) [] 10 s ((λ q. absurd (omega arith)), tt) u .1))
+    (fits-past (_ ∷ []) _ 10 s ((λ q. absurd (omega arith)), tt) f .1) in (
       handoverAt-fails P L formed s (g .1) (not-true _ (g .2)),
       λ u l. handoverAt-exact P L formed u (omega (arith, g .1)) .0 (not-false _ (g .3 u l)),
     ))

@@ -94,11 +94,11 @@ front n [] ns h = absurd (true≢false (sym h))
 front n (m ∷ ms) ns h = ⊎-elim (λ e. or-left (eqb n m) _ e) (λ e. or-right (eqb n m) _ (front n ms ns e)) (or-elim (eqb n m) (isOneOf n ms) h)
 
 -- The number of a judgement is that of one of its tests.
-abbrev Numbers : List Test → List ℕ → Type 0
+abbrev pub Numbers : List Test → List ℕ → Type 0
 Numbers [] ns = Unit {0}
 Numbers (t ∷ ts) ns = (isOneOf (t .number) ns ≡ true) × Numbers ts ns
 
-judge-number : {A : Type 0} (number : A → ℕ) (refuse : ℕ → ℕ → A) (pass : A) (ns : List ℕ)
+pub judge-number : {A : Type 0} (number : A → ℕ) (refuse : ℕ → ℕ → A) (pass : A) (ns : List ℕ)
     → ((n k : ℕ) → number (refuse n k) ≡ n) → isOneOf (number pass) ns ≡ true
     → (ts : List Test) → Numbers ts ns → isOneOf (number (judge refuse pass ts)) ns ≡ true
 unfolding judge

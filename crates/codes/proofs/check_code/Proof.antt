@@ -1,5 +1,6 @@
 -- `codes::check_code` meets its contract: each arm is the definition's case.
-use Rattle.codes.specs.Codes.Laws.{check-refused}
+use Rattle.codes.specs.Codes.{checkCode}
+use Rattle.codes.specs.Codes.Laws.{told}
 use borrow.Author.Needs.{needs}
 use Rattle.codes.proofs.check_code.Statement.{statement}
 use Rattle.codes.proofs.check_code.Tie as tie
@@ -17,7 +18,7 @@ returns : tie.Need-returns
 returns c = search needs
 
 returns-2 : tie.Need-returns-2
-returns-2 c = search (check-refused, needs)
+returns-2 c = search (told checkCode, needs)
 
 pub check-code-spec : {M : Type 1} → statement M
 check-code-spec = tie.close (tie.spec enum-told enum-known-a check-refusal-requires returns returns-2)

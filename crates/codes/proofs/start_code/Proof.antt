@@ -1,5 +1,6 @@
 -- `codes::start_code` meets its contract: each arm is the definition's case.
-use Rattle.codes.specs.Codes.Laws.{start-refused}
+use Rattle.codes.specs.Codes.{startCode}
+use Rattle.codes.specs.Codes.Laws.{told}
 use borrow.Author.Needs.{needs}
 use Rattle.codes.proofs.start_code.Statement.{statement}
 use Rattle.codes.proofs.start_code.Tie as tie
@@ -17,7 +18,7 @@ returns : tie.Need-returns
 returns c = search needs
 
 returns-2 : tie.Need-returns-2
-returns-2 c = search (start-refused, needs)
+returns-2 c = search (told startCode, needs)
 
 pub start-code-spec : {M : Type 1} → statement M
 start-code-spec = tie.close (tie.spec enum-told enum-known-a call-refusal-requires returns returns-2)

@@ -1,5 +1,7 @@
 -- `codes::step_code` meets its contract: each arm is the definition's case.
-use Rattle.codes.specs.Codes.Laws.{step-refused}
+use Rattle.machine.specs.Code.{replyOfStep}
+use Rattle.codes.specs.Codes.{replyCode}
+use Rattle.codes.specs.Codes.Laws.{told-by}
 use borrow.Author.Needs.{needs}
 use Rattle.codes.proofs.step_code.Statement.{statement}
 use Rattle.codes.proofs.step_code.Tie as tie
@@ -17,7 +19,7 @@ returns : tie.Need-returns
 returns c = search needs
 
 returns-2 : tie.Need-returns-2
-returns-2 c = search (step-refused, needs)
+returns-2 c = search (told-by replyOfStep replyCode, needs)
 
 pub step-code-spec : {M : Type 1} → statement M
 step-code-spec = tie.close (tie.spec enum-told enum-known-a call-refusal-requires returns returns-2)

@@ -13,8 +13,7 @@ use Rattle.theory.specs.Bool.Laws.{by-test}
 use Rattle.theory.specs.Below.{firstBelow, anyBelow}
 use Rattle.theory.specs.Below.Laws.{first-is, first-passes, first-lowest}
 use Rattle.theory.specs.Below.Scan.{first-any, found}
-use Rattle.format.specs.Format.{sectionsOf, isInput, ruleOf}
-use Rattle.format.specs.Code.{sections}
+use Rattle.format.specs.Format.{sections, sectionsOf, isInput, ruleOf}
 use Rattle.format.specs.declared.Sizes.{Sizes}
 use Rattle.format.specs.declared.Header.{Header}
 use Rattle.format.specs.declared.Rule.{Rule}

@@ -148,7 +148,7 @@ module _ (z : Sizes) where
         (lt-leb _ _ (g .layer-lt))
 
     -- Tests 5 to 8.
-    sound-sections : Passes (sectionTests z x) → SoundSections z x
+    pub sound-sections : Passes (sectionTests z x) → SoundSections z x
     sound-sections (t5, (t6, (t7, (t8, end)))) =
         let inputs = state-clear t5 in
         let rule : (r : ℕ) → r < z .rules → SoundRule r = λ r l. rule-clear r (t6 r l) in
@@ -253,7 +253,7 @@ module _ (b : List ℕ) (h : Header) where
     sections = sound-sections (h .sizes) (sectionsOf b h) rest;
   }
 
-  sound-passes : SoundShape b h → Passes (shapeTests b h)
+  pub sound-passes : SoundShape b h → Passes (shapeTests b h)
   sound-passes g = (t1, (t2, (t3, (t4, sections-sound (h .sizes) (sectionsOf b h) (g .sections)))))
     where
       z : Sizes

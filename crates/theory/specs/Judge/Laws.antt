@@ -7,7 +7,7 @@ use Prim.Native.Nat.{ℕ, _≤_, _<_}
 use native.Mathlib.Omega.{arith}
 use borrow.Author.Tests.{lt-ltb, le-ltb, ltb-true, ltb-false}
 use lib.Dec.{ltb}
-use Rattle.theory.specs.Bool.Laws.{by-test}
+use Rattle.theory.specs.Bool.Laws.{by-test, not-both}
 use Rattle.theory.specs.Below.Laws.{first-is, first-passes, first-lowest}
 use Rattle.theory.specs.Below.{Clear}
 use Rattle.theory.specs.Below.Scan.{first-clear}
@@ -73,6 +73,14 @@ judge-append refuse x (t ∷ us) vs =
 pub passes-front : (us vs : List Test) → Passes (us ++ vs) → Passes us
 passes-front [] vs p = tt
 passes-front (t ∷ us) vs p = (p .0, passes-front us vs (p .1))
+
+pub passes-back : (us vs : List Test) → Passes (us ++ vs) → Passes vs
+passes-back [] vs p = p
+passes-back (t ∷ us) vs p = passes-back us vs (p .1)
+
+pub passes-both : (us vs : List Test) → Passes us → Passes vs → Passes (us ++ vs)
+passes-both [] vs p q = q
+passes-both (t ∷ us) vs p q = (p .0, passes-both us vs (p .1) q)
 
 -- What a refusal means, where answers tell number and place.
 module _ {A : Type 0} (refuse : ℕ → ℕ → A) (x : A) (tells : (n k m j : ℕ) → refuse n k ≡ refuse m j → (n ≡ m) × (k ≡ j)) where
@@ -160,10 +168,6 @@ module _ (t : Test) (ts : List Test) (n k : ℕ) where
             },
           )
 
-  -- By the number.
-  pub fits-behind : (t .number ≡ n → ⊥) → FirstFits (t ∷ ts) n k → FirstFits ts n k
-  fits-behind other f = ⊎-elim (λ h. absurd (other (h .0))) (λ s. s .1) (fits-split f)
-
   pub fits-here : (FirstFits ts n k → ⊥) → FirstFits (t ∷ ts) n k → FitsHere
   fits-here none f = ⊎-elim (λ h. h) (λ s. absurd (none (s .1))) (fits-split f)
 
@@ -173,3 +177,19 @@ fits-none n k f = go (f .earlier) (f .in-order)
     go : (us : List Test) → [] ≡ us ++ f .test ∷ f .later → ⊥
     go [] e = let z : _≡_ {A = ℕ} 0 1 = cc in omega arith
     go (u ∷ us) e = let z : _≡_ {A = ℕ} 0 1 = cc in omega arith
+
+-- No test has number n.
+abbrev pub Without : ℕ → List Test → Type 0
+Without n [] = Unit {0}
+Without n (t ∷ ts) = (t .number ≡ n → ⊥) × Without n ts
+
+-- The first that fits stands behind tests of other numbers, and behind tests that pass.
+pub fits-past : (us vs : List Test) (n k : ℕ) → Without n us → FirstFits (us ++ vs) n k → Passes us × FirstFits vs n k
+fits-past [] vs n k w f = (tt, f)
+fits-past (u ∷ us) vs n k w f =
+    ⊎-elim (λ h. absurd (w .0 (h .0))) (λ s. let r = fits-past us vs n k (w .1) (s .1) in ((s .0, r .0), r .1)) (fits-split u (us ++ vs) n k f)
+
+pub fits-after : (us vs : List Test) (n k : ℕ) → Passes us → FirstFits (us ++ vs) n k → FirstFits vs n k
+fits-after [] vs n k p f = f
+fits-after (u ∷ us) vs n k p f =
+    ⊎-elim (λ h. absurd (not-both (h .2) (p .0 k (h .1)))) (λ s. fits-after us vs n k (p .1) (s .1)) (fits-split u (us ++ vs) n k f)

@@ -1,0 +1,155 @@
+//! The writer: makes a docket of the bytes of its five sections, and does not judge the ladder or the tree.
+
+use crate::docket::{assemble, count_test, read, record_lengths, refuse, Refusal};
+use crate::tree::leaf_weight_test;
+
+/// Tests 31, 3, 5 to 8, 11 and 30 on the parts, which are the states, rules, layers, nodes and leaves; then writes
+/// their docket to the beginning of the output and hands back its length. A refusal writes nothing.
+pub fn write(parts: [&[u8]; 5], output: &mut [u8]) -> Result<usize, Refusal> {
+    let counts = record_counts(parts)?;
+    count_test(counts)?;
+    leaf_weight_test(&read(parts)?)?;
+    let docket = assemble(counts, parts);
+    if output.len() < docket.len() {
+        return refuse(30, 0);
+    }
+    output[..docket.len()].copy_from_slice(&docket);
+    Ok(docket.len())
+}
+
+/// Test 31; hands back the number of records of each part. Without states a layer or a leaf has no length: these two
+/// parts are not tried, and have no records.
+fn record_counts(parts: [&[u8]; 5]) -> Result<[usize; 5], Refusal> {
+    let records = record_lengths(parts[0].len());
+    let mut counts = [0; 5];
+    for (place, part) in parts.iter().enumerate() {
+        if records[place] == 0 {
+            continue;
+        }
+        if part.len() % records[place] != 0 {
+            return refuse(31, place);
+        }
+        counts[place] = part.len() / records[place];
+    }
+    Ok(counts)
+}
+
+#[cfg(test)]
+mod tests {
+    use super::*;
+    use crate::docket::{line, samples::*, sections};
+
+    /// What every byte of the output is before a call.
+    const OLD: u8 = 0xaa;
+
+    /// What the writer says to parts and an output of this length. It leaves the docket of the parts and then old
+    /// bytes, or old bytes alone.
+    fn said(parts: [&[u8]; 5], room: usize) -> Result<usize, Refusal> {
+        let mut output = vec![OLD; room];
+        let said = write(parts, &mut output);
+        let written = said.unwrap_or(0);
+        assert!(output[written..].iter().all(|&byte| byte == OLD));
+        if said.is_ok() {
+            assert_eq!(sections(&output[..written]), Ok(parts));
+        }
+        said
+    }
+
+    /// The same with one part of the broadcast docket exchanged for another, and an output that is long enough.
+    fn with(place: usize, part: &[u8]) -> Result<usize, Refusal> {
+        let bytes = broadcast(TREE).bytes();
+        let mut parts = sections(&bytes).unwrap();
+        parts[place] = part;
+        said(parts, 1000)
+    }
+
+    /// The docket's own bytes are written again, whatever its ladder and tree are worth, and what follows them stays.
+    #[test]
+    fn dockets_are_written_again() {
+        let refused = docket("2 3", "0 1 1 1 0", "0 0", "9 9 9 9");
+        assert_eq!(line(&refused.bytes()), "refused 9 0\n");
+        for docket in [broadcast(TREE), majority(), exchanged(), parity(), refused] {
+            let bytes = docket.bytes();
+            let mut output = vec![OLD; bytes.len() + 9];
+            assert_eq!(write(sections(&bytes).unwrap(), &mut output), Ok(bytes.len()));
+            assert_eq!(output, [&bytes[..], &[OLD; 9]].concat());
+        }
+    }
+
+    #[test]
+    fn the_output_is_too_short() {
+        let bytes = broadcast(TREE).bytes();
+        let parts = sections(&bytes).unwrap();
+        for room in [0, 23, 24, 98] {
+            assert_eq!(said(parts, room), refuse(30, 0), "{room}");
+        }
+        for room in [99, 100] {
+            assert_eq!(said(parts, room), Ok(99), "{room}");
+        }
+    }
+
+    #[test]
+    fn lengths_that_are_no_whole_number_of_records() {
+        for (place, wrong, record) in [(1, 4, 5), (1, 6, 5), (2, 4, 8), (3, 11, 12), (4, 4, 8), (4, 9, 8)] {
+            assert_eq!(
+                with(place, &vec![0; wrong]),
+                refuse(31, place),
+                "{wrong} bytes of {record}"
+            );
+        }
+        assert_eq!(said([&[4], &[0; 6], &[0; 3], &[0; 1], &[0; 1]], 0), refuse(31, 1));
+        assert_eq!(said([&[4], &[0; 5], &[0; 3], &[0; 1], &[0; 1]], 0), refuse(31, 2));
+        assert_eq!(said([&[4], &[0; 5], &[0; 4], &[0; 1], &[0; 1]], 0), refuse(31, 3));
+        assert_eq!(said([&[4], &[0; 5], &[0; 4], &[], &[0; 1]], 0), refuse(31, 4));
+        assert_eq!(said([&[4], &[0; 5], &[0; 4], &[], &[0; 4]], 0), refuse(3, 0));
+    }
+
+    /// The number of states is used as it is, also outside its limits; without states two parts are not tried.
+    #[test]
+    fn records_of_other_numbers_of_states() {
+        assert_eq!(said([&[], &[0; 1], &[0; 1], &[0; 1], &[0; 1]], 0), refuse(31, 1));
+        assert_eq!(said([&[], &[], &[0; 1], &[0; 1], &[0; 1]], 0), refuse(31, 3));
+        assert_eq!(said([&[], &[], &[0; 1], &[], &[0; 1]], 0), refuse(3, 0));
+        for states in [1, 65, 65_536, 65_538] {
+            let (bytes, weights) = (vec![2; states], vec![0; 4 * states]);
+            assert_eq!(said([&bytes, &[], &weights[1..], &[], &[]], 0), refuse(31, 2));
+            assert_eq!(said([&bytes, &[], &[], &[], &weights[1..]], 0), refuse(31, 4));
+            assert_eq!(said([&bytes, &[], &weights, &[], &weights], 0), refuse(3, 0));
+        }
+        assert_eq!(record_lengths(usize::MAX / 4 + 2)[2], usize::MAX);
+    }
+
+    #[test]
+    fn counts_outside_their_limits() {
+        for (place, record, counts) in [
+            (1, 5, vec![257, 65_537]),
+            (2, 8, vec![0, 17, 65_537]),
+            (3, 12, vec![0, 2_049, 65_541]),
+            (4, 8, vec![129, 65_536]),
+        ] {
+            for count in counts {
+                assert_eq!(with(place, &vec![0; record * count]), refuse(3, place), "{count}");
+            }
+        }
+        assert_eq!(with(1, &[]), refuse(3, 2));
+        assert_eq!(said([&[4, 4], &[0; 5], &[], &[], &[]], 0), refuse(3, 2));
+        assert_eq!(said([&[4, 4], &[], &[], &[], &[]], 0), refuse(3, 3));
+    }
+
+    /// Each of these tests comes before all of the next ones.
+    #[test]
+    fn order_of_the_tests() {
+        let (rule, layer, node, leaf) = ([0, 1, 1, 1, 0], [255; 8], [255; 12], [0, 0, 0, 0, 0, 0, 0x11, 0x27]);
+        let (equal, bad_rule) = ([rule, rule].concat(), [rule, rule, [0, 1, 0, 1, 0]].concat());
+        let good = [1, 0, 0, 0, 0, 0, 0, 0];
+        assert_eq!(said([&[2, 7], &bad_rule, &layer, &node, &leaf], 0), refuse(5, 1));
+        assert_eq!(said([&[0, 1], &bad_rule, &layer, &node, &leaf], 0), refuse(5, 2));
+        assert_eq!(said([&[2, 3], &bad_rule, &layer, &node, &leaf], 0), refuse(6, 2));
+        assert_eq!(said([&[2, 3], &equal, &layer, &node, &leaf], 0), refuse(7, 1));
+        assert_eq!(said([&[2, 3], &rule, &layer, &node, &leaf], 0), refuse(8, 0));
+        let leaves = [[0; 8], leaf].concat();
+        assert_eq!(said([&[2, 3], &rule, &good, &node, &leaves], 0), refuse(11, 1));
+        assert_eq!(said([&[2, 3], &rule, &good, &node, &[0; 8]], 0), refuse(30, 0));
+        assert_eq!(said([&[2, 3], &rule, &good, &node, &[0; 8]], 59), Ok(59));
+    }
+}

@@ -1,0 +1,93 @@
+/* What boundary.c and writing.c share: the memory that calls are lent, docket files, and the texts of refusals. */
+#ifndef SHARED_H
+#define SHARED_H
+
+#define _DEFAULT_SOURCE
+#include <stdint.h>
+#include <stdio.h>
+#include <stdlib.h>
+#include <string.h>
+#include <sys/mman.h>
+#include <unistd.h>
+
+#include "docket.h"
+
+/* The kinds of copies that a call is made on: blocks of the heap of exactly the size, for AddressSanitizer; blocks that
+   end where a page without access begins; and blocks that begin where such a page ends. */
+enum kind { HEAP, ENDS_AT_GUARD, BEGINS_AT_GUARD, KINDS };
+
+/* Memory with a page without access on both sides. */
+struct region {
+    uint8_t *begin;
+    size_t size;
+};
+
+static inline void stop(const char *what)
+{
+    perror(what);
+    exit(2);
+}
+
+static inline struct region new_region(size_t wanted)
+{
+    size_t page = (size_t)sysconf(_SC_PAGESIZE);
+    size_t size = (wanted + page - 1) / page * page;
+    uint8_t *all = mmap(NULL, size + 2 * page, PROT_NONE, MAP_PRIVATE | MAP_ANONYMOUS, -1, 0);
+    if (all == MAP_FAILED || mprotect(all + page, size, PROT_READ | PROT_WRITE) != 0)
+        stop("mmap");
+    return (struct region){all + page, size};
+}
+
+static inline void protect(struct region r, int access)
+{
+    if (mprotect(r.begin, r.size, access) != 0)
+        stop("mprotect");
+}
+
+/* A page that can be neither read nor written. */
+static inline void *new_no_access(void)
+{
+    struct region page = new_region(1);
+    protect(page, PROT_NONE);
+    return page.begin;
+}
+
+/* Where a block of len bytes stands in the region of its kind. */
+static inline uint8_t *place(struct region r, enum kind kind, size_t len)
+{
+    return kind == ENDS_AT_GUARD ? r.begin + r.size - len : r.begin;
+}
+
+static inline void *new_block(size_t len)
+{
+    void *block = malloc(len > 0 ? len : 1);
+    if (block == NULL)
+        stop("malloc");
+    return block;
+}
+
+/* The bytes of a file of at most this size. Returns how many there are. */
+static inline size_t read_bytes(const char *name, uint8_t *bytes, size_t most)
+{
+    FILE *f = fopen(name, "rb");
+    if (f == NULL)
+        stop(name);
+    size_t len = fread(bytes, 1, most, f);
+    if (ferror(f) || fgetc(f) != EOF || fclose(f) != 0)
+        stop(name);
+    return len;
+}
+
+static inline size_t get16(const uint8_t *bytes, size_t at) { return bytes[at] + 256u * bytes[at + 1]; }
+
+/* Whether the number of a refusal has a sentence of its own. */
+static inline int has_text(uint32_t number)
+{
+    const char *text = docket_refusal_text(number);
+    for (uint32_t other = 0; other < 100; other++)
+        if (other != number && strcmp(text, docket_refusal_text(other)) == 0)
+            return 0;
+    return text[0] != '\0' && text[strlen(text) - 1] == '.';
+}
+
+#endif

@@ -1,4 +1,5 @@
 -- `writer::header_bytes` meets its contract: the bytes are those of the definition.
+use mathlib.Core.Path.{refl}
 use borrow.Author.Needs.{needs}
 use Rattle.writer.specs.Write.{headerBytes}
 use Rattle.writer.proofs.header_bytes.Statement.{statement}
@@ -78,7 +79,7 @@ cast-t63 c = search needs
 
 returns : tie.Need-returns
 unfolding headerBytes
-returns c = search needs
+returns c = refl
 
 pub header-bytes-spec : {M : Type 1} → statement M
 header-bytes-spec =

@@ -2,7 +2,8 @@
  * Checks a docket, runs its vote on counts of workers and reads the verdict, all through docket.h.
  *
  *     cc -std=c99 -Iinclude examples/page_reader.c target/staticlib/libdocket.a -o page_reader
- *     ./page_reader DOCKET COUNT...          one count for each state; missing counts at the end are 0
+ *     ./page_reader DOCKET COUNT...          one count for each state, fixed workers among them; missing ones at the end
+ *                                            are 0
  *
  * Exit status: 0 the verdict was read, 1 something was refused, 2 bad usage or a file that cannot be read.
  */

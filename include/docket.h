@@ -10,6 +10,10 @@
  * table may never come to rest. They make these tests in every call: to make many meetings, use docket_run rather than
  * docket_step again and again. docket_write needs no docket: it is lent the five sections and makes the header.
  *
+ * Dockets are of version 1 or 2; every function takes both. A docket of version 2 has a number of fixed workers for each
+ * state, which every start has there; in version 1 this number is 0 for every state. Counts are of all workers, the fixed
+ * ones among them.
+ *
  * What a caller hands over. A docket is a pointer to its bytes and their number; any bytes may be given, at any address.
  * The parts and the output of docket_write are handed over in the same way. Counts are one uint32_t for each state of
  * the docket, in order, and their number. Counts, answers, figures and the total are aligned as their types are. No
@@ -38,12 +42,13 @@
  *
  *   number  place                 refused where
  *   1       0                     the file has fewer than 24 bytes, or another length than its header says
- *   2       0                     the version is not 1
+ *   2       0                     the version is neither 1 nor 2
  *   3       0 S, 1 R, 2 L,        that count is outside its limits: S 2 to 64, R 0 to 256, L 0 to 16, N 1 to 2,048,
  *           3 N, 4 K              K 0 to 128; place 2 also where L is 0 and R is not, or R is 0 and L is not
  *   4       0 to 4: a section;    the section (states, rules, layers, nodes, leaves) does not begin where the one
  *           5: the total length   before it ends, the first at byte 24; 5: the last does not end at the total length
- *   5       state, or S           a bit other than 0 and 1 is set in the state's byte; S: no state is an input
+ *   5       state, or S           a bit other than 0 and 1 is set in the state's first byte, or it has over 1,000 fixed
+ *                                 workers; S: no state is an input, with or without fixed workers
  *   6       rule                  a state is S or more, p > q, p' > q', the two pairs are equal, or the layer is L or more
  *   7       rule                  an earlier rule has the same p, q, p' and q', whatever its layer
  *   8       layer                 no rule is in it, or a weight is over 1,000,000
@@ -58,16 +63,19 @@
  *
  *   20      0                     the counts are not S numbers
  *   21      0                     their sum is not 2 to 1,000,000
- *   22      state                 start test: a state that is no input holds a worker
+ *   22      state                 start test: a state that is no input does not hold exactly its fixed workers, or an
+ *                                 input holds fewer than its fixed workers
  *   23      rule number given     step and can-act: it is R or more
  *   24      rule number given     step: the rule cannot act
  *
- * docket_write makes tests 31, 3, 5, 6, 7, 8, 11 and 30, in this order: 31 is its first test and 30 its last. Part 0 is
- * the states, 1 the rules, 2 the layers, 3 the nodes and 4 the leaves; S, R, L, N and K are here the numbers of records
- * in the parts, and L and K are 0 where S is 0.
+ * docket_write makes tests 2, 31, 3, 5, 6, 7, 8, 11 and 30, in this order: 2 is its first test and 30 its last. Part 0
+ * is the states, 1 the rules, 2 the layers, 3 the nodes and 4 the leaves; S, R, L, N and K are here the numbers of
+ * records in the parts, and L and K are 0 where S is 0.
  *
- *   31      0 to 4: a part        its length is no whole number of records, which have 1, 5, 4 S, 12 and 4 S bytes (so
- *                                 place 0 does not occur); parts 2 and 4 are not tried where S is 0
+ *   2       0                     the version given is neither 1 nor 2
+ *   31      0 to 4: a part        its length is no whole number of records: a state has 1 byte in version 1 (so place 0
+ *                                 occurs only in version 2) and 3 bytes in version 2, the others have 5, 4 S, 12 and 4 S
+ *                                 bytes; parts 2 and 4 are not tried where S is 0
  *   3       as above              as above; any length may be given, and one of too many records is refused here
  *   5 to 8  as above              as above, of parts 0 to 2
  *   11      leaf                  as above, of part 4
@@ -83,7 +91,7 @@
 extern "C" {
 #endif
 
-#define DOCKET_VERSION "0.4.0"   /* of this header and its library */
+#define DOCKET_VERSION "0.5.0"   /* of this header and its library, not of a docket */
 #define DOCKET_MAX_BYTES 65535   /* a longer file is refused with 1, 0; so read at most one byte more */
 #define DOCKET_MAX_STATES 64     /* counts for every docket fit an array of so many */
 #define DOCKET_STACK 65536       /* bytes of stack that are enough for every function */
@@ -96,7 +104,8 @@ uint64_t docket_check(const uint8_t *docket, size_t docket_len);
    at most n times W meetings; n times W is at most 16,000,000,000,000. */
 uint64_t docket_figures(const uint8_t *docket, size_t docket_len, uint64_t figures[6]);
 
-/* The start test: 0 where the counts are 2 to 1,000,000 workers in input states only. */
+/* The start test: 0 where the counts are 2 to 1,000,000 workers, exactly the fixed ones in states that are no input, and
+   at least the fixed ones in each input. In version 1: workers in inputs only. */
 uint64_t docket_start_test(const uint8_t *docket, size_t docket_len, const uint32_t *counts, size_t counts_len);
 
 /* *answer is 1 where the rule can act, else 0. */
@@ -122,16 +131,18 @@ uint64_t docket_step(const uint8_t *docket, size_t docket_len, uint32_t *counts,
 uint64_t docket_run(const uint8_t *docket, size_t docket_len, uint32_t *counts, size_t counts_len, uint32_t limit,
                     uint64_t *steps, uint64_t *rests);
 
-/* Writes a docket of version 1. It is lent the parts, which are the bytes of the five sections without a header, and
-   the output, out_len bytes at out. The lengths of the parts give the counts; the function makes the header with
-   its offsets. Where it returns 0, the docket is the first *total bytes of the output, and the bytes from there on stay
-   as they were. *total is 24 plus the five lengths; an output of DOCKET_MAX_BYTES is always enough.
-   A part with no bytes has length 0 and any pointer but null.
-   The parts of a docket that passes tests 1 to 8 and 11 give the same bytes again. The ladder and the tree are not
-   judged (tests 9, 10, 12 and 13): call docket_check on what was written. */
-uint64_t docket_write(const uint8_t *states, size_t states_len, const uint8_t *rules, size_t rules_len,
-                      const uint8_t *layers, size_t layers_len, const uint8_t *nodes, size_t nodes_len,
-                      const uint8_t *leaves, size_t leaves_len, uint8_t *out, size_t out_len, uint64_t *total);
+/* Writes a docket of the given version, 1 or 2. It is lent the parts, which are the bytes of the five sections of that
+   version without a header, and the output, out_len bytes at out. The versions differ in the states: 1 byte each in
+   version 1, and 3 in version 2, where the number of fixed workers follows. The lengths of the parts give the counts; the
+   function makes the header with its offsets. Where it returns 0, the docket is the first *total bytes of the output, and
+   the bytes from there on stay as they were. *total is 24 plus the five lengths; an output of DOCKET_MAX_BYTES is always
+   enough. A part with no bytes has length 0 and any pointer but null.
+   The version and the parts of a docket that passes tests 1 to 8 and 11 give the same bytes again. The ladder and the
+   tree are not judged (tests 9, 10, 12 and 13): call docket_check on what was written. */
+uint64_t docket_write(uint32_t version, const uint8_t *states, size_t states_len, const uint8_t *rules,
+                      size_t rules_len, const uint8_t *layers, size_t layers_len, const uint8_t *nodes,
+                      size_t nodes_len, const uint8_t *leaves, size_t leaves_len, uint8_t *out, size_t out_len,
+                      uint64_t *total);
 
 /* The number of states of a docket that passes tests 1 to 8: how many counts the calls of the machine want. */
 static inline size_t docket_states(const uint8_t *docket) { return docket[2] + 256u * docket[3]; }
@@ -151,13 +162,13 @@ static inline const char *docket_refusal_text(uint32_t number)
     case 1:
         return "The file is too short, or its length is not the one in its header.";
     case 2:
-        return "The version is not 1.";
+        return "The version is neither 1 nor 2.";
     case 3:
         return "The number of states, rules, layers, nodes or leaves is outside its limits.";
     case 4:
         return "A section does not begin where the one before it ends, or the total length is wrong.";
     case 5:
-        return "A state has a bit set that must be 0, or no state is an input.";
+        return "A state has a bit set that must be 0 or over 1,000 fixed workers, or no state is an input.";
     case 6:
         return "A rule has a state or a layer that does not exist, a pair out of order, or two equal pairs.";
     case 7:
@@ -179,7 +190,8 @@ static inline const char *docket_refusal_text(uint32_t number)
     case 21:
         return "The number of workers is not 2 to 1,000,000.";
     case 22:
-        return "A state that is no input holds a worker at the start.";
+        return "A state that is no input does not hold exactly its fixed workers (none in version 1) at the start, "
+               "or an input holds fewer than its own.";
     case 23:
         return "There is no rule of this number.";
     case 24:

@@ -14,6 +14,7 @@ use second::Docket;
 use std::hint::black_box;
 use std::time::Instant;
 use tests::calls::{self, Call};
+use tests::make::fixed;
 use tests::{make, native};
 
 const ROUNDS: usize = 15;
@@ -112,6 +113,7 @@ struct Inputs {
     checks: Vec<(String, Vec<u8>)>,
     runs: Vec<(String, Vec<u8>, Vec<u32>)>,
     outcomes: Vec<(String, Vec<u8>, Vec<u32>)>,
+    starts: Vec<(String, Vec<u8>, Vec<u32>)>,
     writes: Vec<(String, Vec<u8>)>,
 }
 
@@ -121,6 +123,7 @@ impl Inputs {
             checks: checks(),
             runs: runs(),
             outcomes: outcomes(),
+            starts: starts(),
             writes: writes(),
         }
     }
@@ -140,6 +143,8 @@ impl Inputs {
         cases.extend(small_groups.map(|(name, docket, counts)| refused_case(name, docket, counts)));
         let checks = self.outcomes.iter();
         cases.extend(checks.map(|(name, docket, _)| check_case(&format!("check, {name}"), docket)));
+        let starts = self.starts.iter();
+        cases.extend(starts.map(|(name, docket, counts)| start_case(name, docket, counts)));
         cases.extend(self.writes.iter().map(|(name, docket)| write_case(name, docket)));
         cases
     }
@@ -173,10 +178,29 @@ fn checks() -> Vec<(String, Vec<u8>)> {
         dockets.push((format!("check, maximum of {states} states"), make::maximum(&verdicts)));
     }
     dockets.push(("check, broadcast".into(), make::broadcast()));
+    dockets.extend(fixed_checks());
     dockets
         .into_iter()
         .map(|(name, docket)| (name, docket.bytes()))
         .collect()
+}
+
+/// Dockets of version 2; those whose names are without fixed agents are dockets of version 1 in version 2.
+fn fixed_checks() -> Vec<(String, Docket)> {
+    let none = |docket: Docket| fixed::with_fixed(docket, &[]);
+    let numbers: Vec<i64> = (0..17).map(|value| 1 + 50 * value).collect();
+    let leaves = fixed::layered(1, 1, 2048, 128);
+    [
+        ("every count at its limit, no fixed agents", none(make::largest())),
+        ("60 states, 2,048 nodes, no fixed agents", none(make::relay(60, 2048))),
+        ("broadcast, no fixed agents", none(make::broadcast())),
+        ("every count at its limit, 64,000 fixed agents", fixed::largest()),
+        ("2,048 nodes, 128 leaves, 1 rule, 64,000 fixed agents", leaves),
+        ("sums modulo 17 of fixed agents, kind 7", fixed::sum(17, 3, &numbers)),
+        ("majority of fixed agents", fixed::majority(257, 256)),
+    ]
+    .map(|(name, docket)| (format!("check, v2, {name}"), docket))
+    .into()
 }
 
 fn check_case<'a>(name: &str, docket: &'a [u8]) -> Case<'a> {
@@ -276,27 +300,72 @@ fn refused_case<'a>(name: &str, docket: &'a [u8], counts: &'a [u32]) -> Case<'a>
     }
 }
 
-fn writes() -> Vec<(String, Vec<u8>)> {
-    let largest = ("write, every count at its limit".into(), make::largest().bytes());
-    vec![largest, ("write, broadcast".into(), make::broadcast().bytes())]
+/// Starts, and groups in which one of the fixed agents is missing or, in version 1, one worker is in no input.
+fn starts() -> Vec<(String, Vec<u8>, Vec<u32>)> {
+    let all = fixed::with_fixed(make::still(64), &[1000; 64]).bytes();
+    let (first, last) = (
+        make::last_no_input().bytes(),
+        fixed::with_fixed(make::last_no_input(), &[9; 64]).bytes(),
+    );
+    let group = |count: u32, last: u32| [vec![count; 63], vec![last]].concat();
+    vec![
+        ("start test, 64 states".into(), first.clone(), group(1000, 0)),
+        ("start test refused, 64 states".into(), first, group(1000, 1)),
+        (
+            "start test, v2, 64 states, 64,000 fixed agents".into(),
+            all,
+            group(1000, 1000),
+        ),
+        (
+            "start test, v2, 64 states, the last no input".into(),
+            last.clone(),
+            group(1000, 9),
+        ),
+        ("start test refused, v2, 64 states".into(), last, group(1000, 8)),
+    ]
 }
 
-/// Writes parts to an output, and hands back the total.
-type Write = fn([&[u8]; 5], &mut [u8]) -> u64;
+fn start_case<'a>(name: &str, docket: &'a [u8], counts: &'a [u32]) -> Case<'a> {
+    let [mut first, mut third] = [counts.to_vec(), counts.to_vec()];
+    Case {
+        name: name.into(),
+        unit: "call",
+        units: 1,
+        calls: [
+            Box::new(move || native::say(black_box(docket), &mut first, Call::StartTest).code),
+            Box::new(move || baseline::start_code(black_box(docket), black_box(counts))),
+            Box::new(move || calls::say(black_box(docket), &mut third, Call::StartTest).code),
+        ],
+    }
+}
+
+fn writes() -> Vec<(String, Vec<u8>)> {
+    let dockets = [
+        ("every count at its limit", make::largest()),
+        ("broadcast", make::broadcast()),
+        ("v2, every count at its limit", fixed::largest()),
+    ];
+    dockets
+        .map(|(name, docket)| (format!("write, {name}"), docket.bytes()))
+        .into()
+}
+
+/// Writes parts in a version to an output, and hands back the total.
+type Write = fn(u32, [&[u8]; 5], &mut [u8]) -> u64;
 
 /// The parts of a docket are written to an output of its length; the answer is the total.
 fn write_case<'a>(name: &str, docket: &'a [u8]) -> Case<'a> {
-    let parts = second::sections(docket).expect("a docket that passes tests 1 to 4");
+    let (version, parts) = second::sections(docket).expect("a docket that passes tests 1 to 4");
     let writers: [Write; 3] = [
-        |parts, output| native::write(parts, output).answers[0],
-        |parts, output| baseline::write(parts, output).map_or(0, |total| total as u64),
-        |parts, output| calls::write(parts, output).answers[0],
+        |version, parts, output| native::write(version, parts, output).answers[0],
+        |version, parts, output| baseline::write(version, parts, output).map_or(0, |total| total as u64),
+        |version, parts, output| calls::write(version, parts, output).answers[0],
     ];
     let calls = writers.map(|write| -> Box<dyn FnMut() -> u64 + 'a> {
         let mut output = vec![0; docket.len()];
-        write(parts, &mut output);
+        write(version, parts, &mut output);
         assert!(output == docket, "{name}: other bytes are written");
-        Box::new(move || write(black_box(parts), black_box(&mut output)))
+        Box::new(move || write(version, black_box(parts), black_box(&mut output)))
     });
     Case {
         name: name.into(),

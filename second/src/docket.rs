@@ -1,6 +1,10 @@
 //! The parsed docket, tests 1 to 8, the check as a whole, and the file of a docket.
 
 use crate::{ladder, tree};
+use std::slice::Chunks;
+
+/// The most fixed agents of a state.
+const MOST_FIXED: i64 = 1000;
 
 /// What a refused call says.
 #[derive(Clone, Copy, Debug, PartialEq, Eq)]
@@ -20,11 +24,20 @@ pub struct Figures {
     pub widest: u64,
 }
 
-/// A state: its verdict, 0 or 1, and whether it is an input state.
+/// A state: its verdict, 0 or 1, whether it is an input state, and its fixed agents, which every start has. A docket of
+/// version 1 has none.
 #[derive(Clone, Copy, Debug, PartialEq, Eq)]
 pub struct State {
     pub verdict: u8,
     pub input: bool,
+    pub fixed: i64,
+}
+
+impl State {
+    /// Whether it is no input and has fixed agents, so that every start has exactly this number of agents in it.
+    pub fn only_fixed(&self) -> bool {
+        !self.input && self.fixed > 0
+    }
 }
 
 /// A rule: the before pair p, q, the after pair p', q', and the layer.
@@ -61,9 +74,10 @@ pub struct Leaf {
     pub y2: Vec<i64>,
 }
 
-/// The five sections of a docket; `weights[l][i]` is the weight of state i in layer l.
+/// The version and the five sections of a docket; `weights[l][i]` is the weight of state i in layer l.
 #[derive(Clone, Debug, PartialEq, Eq)]
 pub struct Docket {
+    pub version: u32,
     pub states: Vec<State>,
     pub rules: Vec<Rule>,
     pub weights: Vec<Vec<i64>>,
@@ -126,18 +140,23 @@ pub fn line(docket: &[u8]) -> String {
 
 /// Tests 1 to 8. Nodes and leaves are read and not tested.
 pub fn parse(docket: &[u8]) -> Result<Docket, Refusal> {
-    read(sections(docket)?)
+    let (version, sections) = sections(docket)?;
+    read(version, sections)
 }
 
 /// Tests 5 to 8 on the bytes of the five sections, which pass test 3.
-pub(crate) fn read([states, rules, layers, nodes, leaves]: [&[u8]; 5]) -> Result<Docket, Refusal> {
-    state_test(states)?;
+pub(crate) fn read(version: u32, sections: [&[u8]; 5]) -> Result<Docket, Refusal> {
+    let [states, rules, layers, nodes, leaves] = sections;
+    let records = states.chunks(state_length(version));
+    let weights = 4 * records.len();
+    state_test(records.clone())?;
     let parsed = Docket {
-        states: states.iter().map(read_state).collect(),
+        version,
+        states: records.map(read_state).collect(),
         rules: rules.chunks(5).map(read_rule).collect(),
-        weights: layers.chunks(4 * states.len()).map(read_layer).collect(),
+        weights: layers.chunks(weights).map(read_layer).collect(),
         nodes: nodes.chunks(12).map(read_node).collect(),
-        leaves: leaves.chunks(4 * states.len()).map(read_leaf).collect(),
+        leaves: leaves.chunks(weights).map(read_leaf).collect(),
     };
     rule_test(&parsed)?;
     equal_rule_test(&parsed)?;
@@ -145,22 +164,29 @@ pub(crate) fn read([states, rules, layers, nodes, leaves]: [&[u8]; 5]) -> Result
     Ok(parsed)
 }
 
-/// Tests 1 to 4; hands back the bytes of the five sections.
-pub fn sections(docket: &[u8]) -> Result<[&[u8]; 5], Refusal> {
+/// Tests 1 to 4; hands back the version and the bytes of the five sections.
+pub fn sections(docket: &[u8]) -> Result<(u32, [&[u8]; 5]), Refusal> {
     if docket.len() < 24 || u16_at(docket, 22) != docket.len() {
         return refuse(1, 0);
     }
-    if u16_at(docket, 0) != 1 {
-        return refuse(2, 0);
-    }
+    let version = u16_at(docket, 0) as u32;
+    version_test(version)?;
     let counts: [usize; 5] = std::array::from_fn(|i| u16_at(docket, 2 + 2 * i));
     count_test(counts)?;
-    let records = record_lengths(counts[0]);
+    let records = record_lengths(version, counts[0]);
     let ends = ends(std::array::from_fn(|i| counts[i] * records[i]));
     if let Some(place) = (0..6).find(|&i| u16_at(docket, 12 + 2 * i) != ends[i]) {
         return refuse(4, place);
     }
-    Ok(std::array::from_fn(|i| &docket[ends[i]..ends[i + 1]]))
+    Ok((version, std::array::from_fn(|i| &docket[ends[i]..ends[i + 1]])))
+}
+
+/// Test 2.
+pub(crate) fn version_test(version: u32) -> Result<(), Refusal> {
+    match version {
+        1 | 2 => Ok(()),
+        _ => refuse(2, 0),
+    }
 }
 
 /// Test 3.
@@ -175,11 +201,19 @@ pub(crate) fn count_test(counts: [usize; 5]) -> Result<(), Refusal> {
     Ok(())
 }
 
+/// The length of the record of a state.
+pub fn state_length(version: u32) -> usize {
+    match version {
+        2 => 3,
+        _ => 1,
+    }
+}
+
 /// The length of one record of each section. A product that is too great stays the greatest number, which no section is
 /// as long as.
-pub fn record_lengths(states: usize) -> [usize; 5] {
+pub fn record_lengths(version: u32, states: usize) -> [usize; 5] {
     let weights = states.saturating_mul(4);
-    [1, 5, weights, 12, weights]
+    [state_length(version), 5, weights, 12, weights]
 }
 
 /// Where each of five sections of these lengths begins, and where the last one ends.
@@ -191,13 +225,15 @@ fn ends(lengths: [usize; 5]) -> [usize; 6] {
     ends
 }
 
-/// Test 5.
-fn state_test(states: &[u8]) -> Result<(), Refusal> {
-    if let Some(place) = states.iter().position(|&byte| byte > 3) {
+/// Test 5 on the records of the states.
+fn state_test(mut records: Chunks<u8>) -> Result<(), Refusal> {
+    let count = records.len();
+    let bad = |record: &[u8]| record[0] > 3 || read_state(record).fixed > MOST_FIXED;
+    if let Some(place) = records.clone().position(bad) {
         return refuse(5, place);
     }
-    if !states.iter().any(|byte| read_state(byte).input) {
-        return refuse(5, states.len());
+    if !records.any(|record| read_state(record).input) {
+        return refuse(5, count);
     }
     Ok(())
 }
@@ -243,9 +279,14 @@ fn u16_at(bytes: &[u8], at: usize) -> usize {
     usize::from(u16::from_le_bytes([bytes[at], bytes[at + 1]]))
 }
 
-fn read_state(byte: &u8) -> State {
-    let (verdict, input) = (byte & 1, byte & 2 != 0);
-    State { verdict, input }
+/// The record of a state: one byte, or in version 2 this byte and the number of fixed agents.
+fn read_state(record: &[u8]) -> State {
+    let (verdict, input) = (record[0] & 1, record[0] & 2 != 0);
+    let fixed = match record {
+        [_, low, high] => i64::from(u16::from_le_bytes([*low, *high])),
+        _ => 0,
+    };
+    State { verdict, input, fixed }
 }
 
 fn read_rule(record: &[u8]) -> Rule {
@@ -277,14 +318,15 @@ fn read_leaf(record: &[u8]) -> Leaf {
 }
 
 impl Docket {
-    /// The file of this docket. Counts and offsets follow from the vectors. Nothing is tested, and each number is cut
-    /// to its width in the file.
+    /// The file of this docket. Counts and offsets follow from the vectors, and the fixed agents are left out but in
+    /// version 2. Nothing is tested, and each number is cut to its width in the file.
     pub fn bytes(&self) -> Vec<u8> {
-        let states = self.states.iter();
+        let length = state_length(self.version);
+        let states = self.states.iter().map(state_bytes);
         let weights = self.weights.iter().flatten();
         let leaf_weights = self.leaves.iter().flat_map(|leaf| leaf.y1.iter().chain(&leaf.y2));
         let sections: [Vec<u8>; 5] = [
-            states.map(|state| state.verdict | u8::from(state.input) << 1).collect(),
+            states.flat_map(|record| record.into_iter().take(length)).collect(),
             self.rules.iter().flat_map(rule_bytes).collect(),
             weights.flat_map(|&weight| (weight as u32).to_le_bytes()).collect(),
             self.nodes.iter().flat_map(node_bytes).collect(),
@@ -292,15 +334,21 @@ impl Docket {
         ];
         let [states, rules, layers] = [self.states.len(), self.rules.len(), self.weights.len()];
         let counts = [states, rules, layers, self.nodes.len(), self.leaves.len()];
-        assemble(counts, std::array::from_fn(|i| &sections[i][..]))
+        assemble(self.version, counts, std::array::from_fn(|i| &sections[i][..]))
     }
 }
 
-/// The header with these counts, each number cut to its width in the file, and the sections behind it.
-pub(crate) fn assemble(counts: [usize; 5], sections: [&[u8]; 5]) -> Vec<u8> {
-    let header = [&[1], &counts[..], &ends(sections.map(<[u8]>::len))].concat();
+/// The header with this version and these counts, each number cut to its width in the file, and the sections behind it.
+pub(crate) fn assemble(version: u32, counts: [usize; 5], sections: [&[u8]; 5]) -> Vec<u8> {
+    let header = [&[version as usize], &counts[..], &ends(sections.map(<[u8]>::len))].concat();
     let header = header.iter().flat_map(|&number| (number as u16).to_le_bytes());
     header.chain(sections.concat()).collect()
+}
+
+/// The record of a state in version 2; its first byte is that of version 1.
+fn state_bytes(state: &State) -> [u8; 3] {
+    let [low, high] = (state.fixed as u16).to_le_bytes();
+    [state.verdict | u8::from(state.input) << 1, low, high]
 }
 
 fn rule_bytes(rule: &Rule) -> [u8; 5] {
@@ -344,14 +392,15 @@ pub(crate) mod samples {
         std::array::from_fn(|bit| number >> bit & 1 == 1)
     }
 
-    /// A docket with no leaf from the records of its states, rules, layers and nodes.
+    /// A docket of version 1 with no leaf from the bytes of its states and the records of its rules, layers and nodes.
     pub fn docket(states: &str, rules: &str, layers: &str, nodes: &str) -> Docket {
         let bytes = |row: &Vec<u64>| row.iter().map(|&number| number as u8).collect::<Vec<u8>>();
         Docket {
+            version: 1,
             states: rows(states)
                 .iter()
                 .flat_map(bytes)
-                .map(|byte| read_state(&byte))
+                .map(|byte| read_state(&[byte]))
                 .collect(),
             rules: rows(rules).iter().map(|row| read_rule(&bytes(row))).collect(),
             weights: rows(layers)
@@ -361,6 +410,16 @@ pub(crate) mod samples {
             nodes: rows(nodes).iter().map(|row| node(row)).collect(),
             leaves: vec![],
         }
+    }
+
+    /// The docket in version 2, with these numbers of fixed agents.
+    pub fn with_fixed<const S: usize>(mut docket: Docket, fixed: [i64; S]) -> Docket {
+        docket.version = 2;
+        assert_eq!(docket.states.len(), S);
+        for (state, fixed) in docket.states.iter_mut().zip(fixed) {
+            state.fixed = fixed;
+        }
+        docket
     }
 
     /// The broadcast docket with this tree.
@@ -448,7 +507,7 @@ mod tests {
             (30, 1, 6, 0),
         ];
         let others = [
-            (0, 2, 2, 0),
+            (0, 0, 2, 0),
             (1, 1, 2, 0),
             (10, 129, 3, 4),
             (24, 7, 5, 0),
@@ -506,8 +565,92 @@ mod tests {
         }
     }
 
+    /// The version is 1 or 2; the other numbers have one of these in their low or their high byte. A docket of one
+    /// version has the wrong offsets for the other, from that of the rules on.
+    #[test]
+    fn versions() {
+        let version_2 = with_fixed(broadcast(TREE), [0, 0]);
+        for (docket, right) in [(broadcast(TREE), 1), (version_2, 2)] {
+            for version in [0, 1, 2, 3, 256, 257, 258, 512, 65_535] {
+                let mut bytes = docket.bytes();
+                bytes[..2].copy_from_slice(&u16::to_le_bytes(version));
+                let said = match version {
+                    1 | 2 if version == right => "accepted 2 1 1 5 1 1\n",
+                    1 | 2 => "refused 4 1\n",
+                    _ => "refused 2 0\n",
+                };
+                assert_eq!(line(&bytes), said, "{version} for {right}");
+            }
+        }
+    }
+
+    /// Test 4 follows the version.
+    #[test]
+    fn sections_of_version_2() {
+        let bytes = with_fixed(broadcast(TREE), [258, 1000]).bytes();
+        let header: Vec<usize> = (0..12).map(|i| u16_at(&bytes, 2 * i)).collect();
+        assert_eq!(header, [2, 2, 1, 1, 5, 0, 24, 30, 35, 43, 103, 103]);
+        assert_eq!(bytes[24..31], [2, 2, 1, 3, 0xe8, 3, 0]);
+        for place in 0..6 {
+            let mut other = bytes.clone();
+            other[12 + 2 * place] += 1;
+            let said = if place == 5 { refuse(1, 0) } else { refuse(4, place) };
+            assert_eq!(check(&other), said);
+        }
+        let longer = [&bytes[..22], &[104, 0], &bytes[24..], &[0]].concat();
+        assert_eq!(check(&longer), refuse(4, 5));
+        let largest: usize = record_lengths(2, 64)
+            .iter()
+            .zip([64, 256, 16, 2048, 128])
+            .map(|(r, n)| r * n)
+            .sum();
+        assert_eq!(24 + largest, 62_936);
+    }
+
+    /// Test 5 refuses the lowest state with another bit or with too many fixed agents; fixed agents make no input.
+    #[test]
+    fn states_of_version_2() {
+        let said = |bytes: [u8; 2], fixed: [i64; 2]| {
+            let mut docket = with_fixed(broadcast(TREE), fixed);
+            for (state, byte) in docket.states.iter_mut().zip(bytes) {
+                (state.verdict, state.input) = (byte & !2, byte & 2 != 0);
+            }
+            line(&docket.bytes())
+        };
+        for fixed in [[0, 0], [0, 1], [1, 0], [1, 1], [0, 1000], [1000, 0], [255, 256]] {
+            assert_eq!(said([2, 3], fixed), "accepted 2 1 1 5 1 1\n", "{fixed:?}");
+        }
+        for more in [1001, 1024, 1256, 32_768, 65_535] {
+            assert_eq!(said([2, 3], [more, 0]), "refused 5 0\n", "{more}");
+            assert_eq!(said([2, 3], [0, more]), "refused 5 1\n", "{more}");
+            assert_eq!(said([2, 7], [more, 0]), "refused 5 0\n", "{more}");
+        }
+        assert_eq!(said([6, 3], [0, 1001]), "refused 5 0\n");
+        assert_eq!(said([2, 7], [0, 0]), "refused 5 1\n");
+        assert_eq!(said([0, 1], [0, 0]), "refused 5 2\n");
+        assert_eq!(said([0, 1], [3, 1000]), "refused 5 2\n");
+        assert_eq!(said([0, 1], [3, 1001]), "refused 5 1\n");
+    }
+
+    /// A docket of version 1 says the same in version 2, with no fixed agents, whether it is accepted or refused.
+    #[test]
+    fn version_2_without_fixed_agents() {
+        let same_pairs = docket("2 3", "0 1 0 1 0", "1 0", TREE);
+        let no_input = docket("0 1", "0 1 1 1 0", "1 0", TREE);
+        for old in [broadcast(TREE), majority(), exchanged(), parity(), same_pairs, no_input] {
+            let new = Docket {
+                version: 2,
+                ..old.clone()
+            };
+            assert_eq!(new.bytes().len(), old.bytes().len() + 2 * old.states.len());
+            assert_eq!(check(&new.bytes()), check(&old.bytes()));
+        }
+    }
+
     #[test]
     fn bytes_is_the_inverse_of_parse() {
+        let version_2 = with_fixed(majority(), [0, 1, 257, 1000]);
+        assert_eq!(parse(&version_2.bytes()), Ok(version_2));
         let mut docket = majority();
         docket.nodes[0].argument = 65_535;
         docket.nodes[0].set[63] = true;

@@ -10,7 +10,9 @@ mod machine;
 mod tree;
 mod writer;
 
-pub use docket::{check, line, parse, record_lengths, sections, Docket, Figures, Leaf, Node, Refusal, Rule, State};
+pub use docket::{
+    check, line, parse, record_lengths, sections, state_length, Docket, Figures, Leaf, Node, Refusal, Rule, State,
+};
 pub use ladder::handover;
 pub use machine::{can_act, is_standstill, run, start_test, step, verdict, Ran, Verdict};
 pub use writer::write;

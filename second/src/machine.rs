@@ -17,11 +17,13 @@ pub struct Ran {
     pub rests: bool,
 }
 
-/// Whether the group may be a start: every worker is in an input state.
+/// Whether the group may be a start: an input state has its fixed agents or more, and every other state its fixed agents
+/// alone.
 pub fn start_test(docket: &[u8], counts: &[u32]) -> Result<(), Refusal> {
     let docket = docket_for(docket, counts)?;
     for (place, state) in docket.states.iter().enumerate() {
-        if counts[place] > 0 && !state.input {
+        let more = i64::from(counts[place]) - state.fixed;
+        if more < 0 || (more > 0 && !state.input) {
             return refuse(22, place);
         }
     }
@@ -209,6 +211,53 @@ mod tests {
         runs(&broadcast(TREE), &[1, 1], 0, &[1, 1], 0, false);
         runs(&broadcast(TREE), &[0, 2], 0, &[0, 2], 0, true);
         runs(&broadcast(TREE), &[999_999, 1], 999_999, &[0, 1_000_000], 999_999, true);
+    }
+
+    /// A state that is no input has exactly its fixed agents at the start, an input has them or more.
+    #[test]
+    fn starts_with_fixed_agents() {
+        let majority = with_fixed(majority(), [2, 0, 3, 0]).bytes();
+        let said = |counts: [u32; 4]| start_test(&majority, &counts);
+        for counts in [[2, 0, 3, 0], [3, 0, 3, 0], [2, 1, 3, 0], [999_997, 0, 3, 0]] {
+            assert_eq!(said(counts), Ok(()), "{counts:?}");
+        }
+        for (counts, place) in [
+            ([1, 9, 3, 0], 0),
+            ([0, 0, 2, 1], 0),
+            ([2, 0, 2, 0], 2),
+            ([2, 0, 4, 0], 2),
+            ([2, 0, 0, 0], 2),
+            ([2, 0, 3, 1], 3),
+            ([2, 0, 4, 1], 2),
+        ] {
+            assert_eq!(said(counts), refuse(22, place), "{counts:?}");
+        }
+    }
+
+    /// The number has 16 bits, and tests 20 and 21 come before test 22.
+    #[test]
+    fn order_of_the_start_test() {
+        let broadcast = with_fixed(broadcast(TREE), [0, 257]).bytes();
+        assert_eq!(start_test(&broadcast, &[0, 257]), Ok(()));
+        assert_eq!(start_test(&broadcast, &[1, 256]), refuse(22, 1));
+        assert_eq!(start_test(&broadcast, &[2, 1]), refuse(22, 1));
+        assert_eq!(start_test(&broadcast, &[0, 0]), refuse(21, 0));
+        assert_eq!(start_test(&broadcast, &[1, 0]), refuse(21, 0));
+        assert_eq!(start_test(&broadcast, &[2, 0]), refuse(22, 1));
+        assert_eq!(start_test(&broadcast, &[2, 0, 0]), refuse(20, 0));
+        assert_eq!(start_test(&broadcast, &[1_000_000, 1]), refuse(21, 0));
+        assert_eq!(start_test(&broadcast, &[u32::MAX, 257]), refuse(21, 0));
+    }
+
+    /// The other calls take any group, whatever the fixed agents.
+    #[test]
+    fn groups_without_the_fixed_agents() {
+        let docket = with_fixed(majority(), [2, 0, 3, 0]);
+        runs(&docket, &[2, 1, 0, 0], u32::MAX, &[1, 0, 2, 0], 2, true);
+        assert_eq!(verdict(&docket.bytes(), &[1, 0, 2, 0]), Ok(Verdict::Zero));
+        assert_eq!(is_standstill(&docket.bytes(), &[1, 0, 2, 0]), Ok(true));
+        assert_eq!(can_act(&docket.bytes(), &[1, 1, 0, 0], 0), Ok(true));
+        assert_eq!(stepped(&docket, [1, 1, 0, 0], 0), [0, 0, 1, 1]);
     }
 
     #[test]

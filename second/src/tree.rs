@@ -117,22 +117,26 @@ fn meets(pair: [usize; 2], set: &[bool; 64]) -> bool {
 /// The leaf rule: no rule not unused raises its run's weights, and the lower sum exceeds the upper sum.
 fn leaf_closes(docket: &Docket, facts: &Facts, leaf: &Leaf) -> bool {
     let raises = |y: &[i64], rule: &Rule| together(y, rule.after) > together(y, rule.before);
-    match (lower_sum(facts, leaf), upper_sum(facts, leaf)) {
+    match (lower_sum(facts, leaf), upper_sum(docket, facts, leaf)) {
         (Some(lower), Some(upper)) => facts.rules_fit(docket, leaf, raises) && lower > upper,
         _ => false,
     }
 }
 
-/// The upper sum; none if y1 + y2 is above 0 at a state not absent at the start.
-fn upper_sum(facts: &Facts, leaf: &Leaf) -> Option<i64> {
+/// The upper sum, which a state joins once for each of its fixed agents, and once where it has none and is present;
+/// none if y1 + y2 is above 0 at a state not absent at the start, but for one that is no input and has fixed agents.
+fn upper_sum(docket: &Docket, facts: &Facts, leaf: &Leaf) -> Option<i64> {
     let mut sum = 0;
-    for (state, both) in facts.start_weights(leaf) {
-        if both > 0 {
+    for (i, both) in facts.start_weights(leaf) {
+        let state = &docket.states[i];
+        if both > 0 && !state.only_fixed() {
             return None;
         }
-        if facts.present[0][state] {
-            sum += both;
-        }
+        let times = match state.fixed {
+            0 => i64::from(facts.present[0][i]),
+            fixed => fixed,
+        };
+        sum += times * both;
     }
     Some(sum)
 }
@@ -151,13 +155,29 @@ fn lower_sum(facts: &Facts, leaf: &Leaf) -> Option<i64> {
     Some(sum)
 }
 
-/// The remainder rule, modulo m: no rule not unused changes its run's weights, y1 + y2 is 0 for every state not absent
-/// at the start, and the sum of the ends is not 0.
+/// The remainder rule, modulo m: no rule not unused changes its run's weights, and the sum of the ends is not that of the
+/// start.
 fn remainder_closes(docket: &Docket, facts: &Facts, leaf: &Leaf, m: i64) -> bool {
     let changes = |y: &[i64], rule: &Rule| !is_multiple(together(y, rule.after) - together(y, rule.before), m);
-    let start = facts.start_weights(leaf).all(|(_, both)| is_multiple(both, m));
-    let ends = exactly_one_sum(facts, leaf, m).is_some_and(|sum| !is_multiple(sum, m));
-    facts.rules_fit(docket, leaf, changes) && start && ends
+    match (exactly_one_sum(facts, leaf, m), start_sum(docket, facts, leaf, m)) {
+        (Some(ends), Some(start)) => facts.rules_fit(docket, leaf, changes) && !is_multiple(ends - start, m),
+        _ => false,
+    }
+}
+
+/// The sum of y1 + y2 over the agents of a start, modulo m. States that are no inputs and have fixed agents join it, once
+/// for each of these; none if y1 + y2 is no multiple of m at another state not absent at the start.
+fn start_sum(docket: &Docket, facts: &Facts, leaf: &Leaf, m: i64) -> Option<i64> {
+    let mut sum = 0;
+    for (i, both) in facts.start_weights(leaf) {
+        let state = &docket.states[i];
+        if state.only_fixed() {
+            sum += state.fixed * both;
+        } else if !is_multiple(both, m) {
+            return None;
+        }
+    }
+    Some(sum)
 }
 
 /// The sum of the weights of the states that are not absent and hold exactly one worker at their end; none if the
@@ -179,7 +199,8 @@ fn is_multiple(number: i64, m: i64) -> bool {
 }
 
 impl Facts {
-    /// Says only that every state that is no input is absent at the start.
+    /// Says only that at the start every state with fixed agents is present, and every other one that is no input is
+    /// absent.
     fn fresh(docket: &Docket) -> Facts {
         let none = [[false; 64]; 3];
         let mut facts = Facts {
@@ -189,7 +210,8 @@ impl Facts {
             unused: [[false; 256]; 3],
         };
         for (i, state) in docket.states.iter().enumerate() {
-            facts.absent[0][i] = !state.input;
+            facts.present[0][i] = state.fixed > 0;
+            facts.absent[0][i] = !state.input && state.fixed == 0;
         }
         facts
     }
@@ -403,6 +425,107 @@ mod tests {
         assert!(leaf_closes(&docket, &facts, &leaf));
     }
 
+    /// A state with fixed agents is present at the start, whether it is an input or not, and only a state that is no
+    /// input and has none is absent.
+    #[test]
+    fn fresh_facts() {
+        let facts = Facts::fresh(&with_fixed(docket("2 2 0 0", "", "", "1 1 0 0"), [0, 1, 0, 1000]));
+        assert_eq!(facts.present[0][..4], [false, true, false, true]);
+        assert_eq!(facts.absent[0][..4], [false, false, true, false]);
+        let facts = Facts::fresh(&docket("2 2 0 0", "", "", "1 1 0 0"));
+        assert_eq!(facts.present[0][..4], [false; 4]);
+        assert_eq!(facts.absent[0][..4], [false, false, true, true]);
+    }
+
+    /// Fixed agents in state 1 draw all others there: a trap leaves them none at the start, where they are present.
+    #[test]
+    fn fixed_agents_are_present() {
+        let nodes = "3 1 0 0; 1 1 0 0; 5 1 0 2; 2 0 1 0";
+        for states in ["2 1", "2 3"] {
+            let docket = docket(states, "0 1 1 1 0", "1 0", nodes);
+            assert_eq!(line(&docket.bytes()), "refused 13 3\n");
+            for fixed in [1, 1000] {
+                assert_eq!(
+                    line(&with_fixed(docket.clone(), [0, fixed]).bytes()),
+                    "accepted 2 1 1 4 1 1\n"
+                );
+            }
+            assert_eq!(line(&with_fixed(docket, [1, 0]).bytes()), "refused 13 3\n");
+        }
+    }
+
+    /// Fresh facts, and that all states are absent at both ends.
+    fn absent_at_ends(docket: &Docket) -> Facts {
+        let mut facts = Facts::fresh(docket);
+        facts.absent[1] = [true; 64];
+        facts.absent[2] = [true; 64];
+        facts
+    }
+
+    /// Whether the leaf rule holds in a table with no rule, whose first two states are inputs and the others not, with
+    /// all states absent at both ends, so that the lower sum is 0; after a change of the facts.
+    fn leaf<const S: usize>(fixed: [i64; S], y1: [i64; S], y2: [i64; S], change: impl FnOnce(&mut Facts)) -> bool {
+        let states = ["2 2", &" 0".repeat(S - 2)].concat();
+        let docket = with_fixed(docket(&states, "", "", "1 1 0 0"), fixed);
+        let (y1, y2) = (y1.to_vec(), y2.to_vec());
+        let mut facts = absent_at_ends(&docket);
+        change(&mut facts);
+        leaf_closes(&docket, &facts, &Leaf { y1, y2 })
+    }
+
+    /// The fixed number times y1 + y2 joins the upper sum, and not y1 + y2 once.
+    #[test]
+    fn fixed_agents_of_a_leaf() {
+        assert!(leaf([0, 0, 2, 3], [0, 0, 1, -1], [0, 0, 0, 0], |_| ()));
+        assert!(leaf([0, 0, 2, 3], [0, 0, 0, 0], [0, 0, 1, -1], |_| ()));
+        assert!(!leaf([0, 0, 3, 2], [0, 0, 1, -1], [0, 0, 0, 0], |_| ()));
+        assert!(!leaf([0, 0, 2, 2], [0, 0, 1, -1], [0, 0, 0, 0], |_| ()));
+        assert!(!leaf([0, 0, 1, 256], [0, 0, 256, -1], [0, 0, 0, 0], |_| ()));
+        assert!(leaf([0, 0, 1, 257], [0, 0, 256, -1], [0, 0, 0, 0], |_| ()));
+        assert!(leaf([0, 3, 2, 0], [0, -1, 1, 0], [0, 0, 0, 0], |_| ()));
+        assert!(!leaf([0, 2, 2, 0], [0, -1, 1, 0], [0, 0, 0, 0], |_| ()));
+    }
+
+    /// The sign of y1 + y2 is free where the state is no input and has fixed agents, and nowhere else.
+    #[test]
+    fn sign_of_a_leaf() {
+        assert!(leaf([9, 0, 1, 0], [-1, 0, 1, 0], [0, 0, 0, 0], |_| ()));
+        assert!(!leaf([9, 0, 1, 0], [-1, 1, 0, 0], [0, 0, 0, 0], |_| ()));
+        assert!(!leaf([9, 1, 0, 0], [-1, 1, 0, 0], [0, 0, 0, 0], |_| ()));
+        assert!(leaf([9, 1, 0, 0], [-1, 1, 0, 0], [0, -1, 0, 0], |_| ()));
+        assert!(leaf([9, 0, 0, 0], [-1, 0, 1, 0], [0, 0, 0, 0], |_| ()));
+        let not_absent = |facts: &mut Facts| facts.absent[0][2] = false;
+        assert!(!leaf([9, 0, 0, 0], [-1, 0, 1, 0], [0, 0, 0, 0], not_absent));
+    }
+
+    /// A state absent at the start joins no sum and has a free sign, also where it has fixed agents; one without fixed
+    /// agents joins once where it is present.
+    #[test]
+    fn facts_of_fixed_agents() {
+        let absent = |state: usize| move |facts: &mut Facts| facts.absent[0][state] = true;
+        assert!(!leaf([1, 5, 1, 0], [-1, 0, 1, 0], [0, 0, 0, 0], |_| ()));
+        assert!(leaf([1, 5, 1, 0], [-1, 0, 1, 0], [0, 0, 0, 0], absent(2)));
+        assert!(!leaf([9, 5, 1, 0], [-1, 0, 1, 0], [0, 0, 0, 0], absent(0)));
+        assert!(leaf([9, 5, 1, 0], [-1, 1, 1, 0], [0, 0, 0, 0], absent(1)));
+        let present = |facts: &mut Facts| facts.present[0][0] = true;
+        assert!(leaf([0, 0, 1, 0], [-2, 0, 1, 0], [0, 0, 0, 0], present));
+        assert!(!leaf([0, 0, 2, 0], [-2, 0, 1, 0], [0, 0, 0, 0], present));
+        assert!(!leaf([0, 0, 1, 0], [-2, 0, 1, 0], [0, 0, 0, 0], |_| ()));
+    }
+
+    /// 64 states with 1,000 fixed agents each: the sum is as great as it can be, or 0 but for one agent.
+    #[test]
+    fn greatest_sums_of_a_leaf() {
+        let split = |below: usize| std::array::from_fn(|i| if i < below { -10_000 } else { 10_000 });
+        assert!(leaf([1000; 64], split(64), split(64), |_| ()));
+        assert!(!leaf([1000; 64], split(2), split(2), |_| ()));
+        assert!(!leaf([1000; 64], split(32), split(32), |_| ()));
+        for (place, closes) in [(2, false), (31, false), (32, true), (63, true)] {
+            let fixed = std::array::from_fn(|i| if i == place { 999 } else { 1000 });
+            assert_eq!(leaf(fixed, split(32), split(32), |_| ()), closes, "{place}");
+        }
+    }
+
     /// The parity docket after a change.
     fn parity_line(change: impl FnOnce(&mut Docket)) -> String {
         let mut docket = parity();
@@ -493,6 +616,89 @@ mod tests {
             facts.absent[0][0] = true;
             facts.present[0][0] = true;
         }));
+    }
+
+    /// Whether the remainder rule holds in a table of states of this number with no rule, of which the first is an input
+    /// and the others not, with all states absent at both ends, so that their sum is 0; after a change of the facts.
+    fn fixed_remainder<const S: usize>(
+        fixed: [i64; S],
+        y1: [i64; S],
+        y2: [i64; S],
+        m: i64,
+        change: impl FnOnce(&mut Facts),
+    ) -> bool {
+        let states = ["2", &" 0".repeat(S - 1)].concat();
+        let docket = with_fixed(docket(&states, "", "", "1 1 0 0"), fixed);
+        let (y1, y2) = (y1.to_vec(), y2.to_vec());
+        let mut facts = absent_at_ends(&docket);
+        change(&mut facts);
+        remainder_closes(&docket, &facts, &Leaf { y1, y2 }, m)
+    }
+
+    /// Where a state is no input, its fixed number times y1 + y2 is taken off the sum of the ends.
+    #[test]
+    fn fixed_agents_of_a_remainder() {
+        assert!(fixed_remainder([0, 1], [0, 1], [0, 0], 2, |_| ()));
+        assert!(fixed_remainder([0, 1], [0, 0], [0, 1], 2, |_| ()));
+        assert!(!fixed_remainder([0, 1], [0, 1], [0, 1], 2, |_| ()));
+        assert!(!fixed_remainder([0, 2], [0, 1], [0, 0], 2, |_| ()));
+        assert!(fixed_remainder([0, 2], [0, 1], [0, 0], 3, |_| ()));
+        assert!(!fixed_remainder([0, 256], [0, 1], [0, 0], 2, |_| ()));
+        assert!(fixed_remainder([0, 256], [0, 1], [0, 0], 257, |_| ()));
+        assert!(!fixed_remainder([0, 1000], [0, 1], [0, 0], 1000, |_| ()));
+        assert!(!fixed_remainder([0, 1, 2], [0, 2, -1], [0, 0, 0], 5, |_| ()));
+        assert!(!fixed_remainder([0, 1, 2], [0, 1, 1], [0, 0, 0], 3, |_| ()));
+        assert!(fixed_remainder([0, 1, 2], [0, 1, 1], [0, 0, 0], 4, |_| ()));
+        assert!(!fixed_remainder([0, 0], [0, 1], [0, 0], 2, |_| ()));
+    }
+
+    /// It is taken off, and not added: with one agent at end 1 the sum is 1 less the fixed number.
+    #[test]
+    fn taken_off_the_ends() {
+        let exactly_one = |facts: &mut Facts| {
+            facts.absent[1][1] = false;
+            facts.present[1][1] = true;
+            facts.at_most_one[1][1] = true;
+        };
+        for (fixed, m, closes) in [(1, 3, false), (2, 3, true), (4, 3, false), (1, 2, false), (3, 4, true)] {
+            assert_eq!(
+                fixed_remainder([0, fixed], [0, 1], [0, 0], m, exactly_one),
+                closes,
+                "{fixed}, {m}"
+            );
+        }
+    }
+
+    /// An input is like any input, also with fixed agents; a state absent at the start is free, also with fixed agents.
+    #[test]
+    fn inputs_of_a_remainder() {
+        assert!(!fixed_remainder([1, 0], [1, 0], [0, 0], 2, |_| ()));
+        assert!(!fixed_remainder([1, 0], [1, 0], [1, 0], 2, |_| ()));
+        assert!(!fixed_remainder([1, 1], [1, 1], [0, 0], 2, |_| ()));
+        assert!(fixed_remainder([1, 1], [1, 1], [1, 0], 2, |_| ()));
+        let absent = |state: usize| move |facts: &mut Facts| facts.absent[0][state] = true;
+        assert!(fixed_remainder([1, 1], [1, 1], [0, 0], 2, absent(0)));
+        assert!(!fixed_remainder([1, 1], [0, 1], [0, 0], 2, absent(1)));
+        let not_absent = |facts: &mut Facts| facts.absent[0][1] = false;
+        assert!(!fixed_remainder([0, 0], [0, 1], [0, 0], 2, not_absent));
+        assert!(!fixed_remainder([0, 0, 1], [0, 1, 1], [0, 0, 0], 2, |facts| facts
+            .absent[0][1] =
+            false));
+    }
+
+    /// 63 states with 1,000 fixed agents each, weights at the limits, and modulus 32: 10,000 is 16 modulo 32.
+    #[test]
+    fn greatest_sums_of_a_remainder() {
+        for (weight, rest) in [(10_000, 9_984), (-10_000, -9_984)] {
+            let (mut y1, mut y2) = ([weight; 64], [rest; 64]);
+            (y1[0], y2[0]) = (0, 0);
+            assert!(!fixed_remainder([1000; 64], y1, y2, 32, |_| ()));
+            for place in [1, 32, 63] {
+                let fixed = std::array::from_fn(|i| if i == place { 999 } else { 1000 });
+                assert!(fixed_remainder(fixed, y1, y2, 32, |_| ()), "{place}");
+            }
+            assert!(fixed_remainder([999; 64], y1, y2, 32, |_| ()));
+        }
     }
 
     /// State 0 needs to be absent or exactly one where its weight is no multiple of the modulus, and nowhere else.

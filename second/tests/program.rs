@@ -43,7 +43,7 @@ fn corpus() {
         );
         assert_eq!(text(&said.stderr), "", "{}", path.display());
     }
-    assert!(files >= 73, "{files} dockets in the corpus");
+    assert!(files >= 105, "{files} dockets in the corpus");
 }
 
 /// A read that fails is not taken for the end of the file.
@@ -69,18 +69,21 @@ fn version() {
     assert_eq!(version.trim_end(), env!("CARGO_PKG_VERSION"));
 }
 
-/// The bytes under a heading of docs/FORMAT.md are those of the example: lines of an offset, two spaces and hexadecimal
-/// numbers.
+/// The bytes under a heading of docs/FORMAT.md are those of the example that it names: lines of an offset, two spaces and
+/// hexadecimal numbers.
 #[test]
 fn dockets_in_the_format_page() {
     let page = std::fs::read_to_string(repository().join("docs/FORMAT.md")).expect("docs/FORMAT.md");
-    for (heading, name) in [
-        ("### A docket with nodes of kinds 0 to 6 and a leaf", "majority"),
-        ("### A docket with a node of kind 7", "parity"),
-    ] {
-        let (_, section) = page.split_once(heading).expect("the section");
+    let sections: Vec<&str> = page
+        .split("\n##")
+        .filter(|text| text.starts_with("# A docket "))
+        .collect();
+    assert!(sections.len() >= 3, "{} dockets in the page", sections.len());
+    for section in sections {
+        let (_, rest) = section.split_once("The same bytes are the file `").expect("an example");
+        let (name, _) = rest.split_once('`').expect("its name");
         let bytes = bytes_of(section);
-        let example = std::fs::read(repository().join(format!("examples/{name}.docket"))).expect("the example");
+        let example = std::fs::read(repository().join(name)).expect("the example");
         assert_eq!(bytes, example, "{name}");
         assert!(
             section.contains(&format!("`{}`", second::line(&bytes).trim_end())),

@@ -80,6 +80,9 @@ static inline size_t read_bytes(const char *name, uint8_t *bytes, size_t most)
 
 static inline size_t get16(const uint8_t *bytes, size_t at) { return bytes[at] + 256u * bytes[at + 1]; }
 
+/* The length of the record of a state. */
+static inline size_t state_length(size_t version) { return version == 2 ? 3 : 1; }
+
 /* Whether the number of a refusal has a sentence of its own. */
 static inline int has_text(uint32_t number)
 {

@@ -52,7 +52,7 @@ static void call_writer(void)
 {
     static uint8_t output[MOST_BYTES];
     uint64_t total = 0;
-    docket_write(docket + offset(0), length(0), docket + offset(1), length(1), docket + offset(2), length(2),
+    docket_write(docket[0], docket + offset(0), length(0), docket + offset(1), length(1), docket + offset(2), length(2),
                  docket + offset(3), length(3), docket + offset(4), length(4), output, docket_len, &total);
 }
 

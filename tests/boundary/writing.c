@@ -6,7 +6,8 @@
  *
  * As in boundary.c, each call is made on three kinds of copies. Parts of the last two kinds stand in pages that cannot
  * be written. A refused call is made once more with an output and a total that can be neither read nor written. A file
- * that fails tests 1 to 4 has no parts, and is passed over.
+ * that fails tests 1 to 4 has no parts, and is passed over. The parts are written in the version of the file, and in the
+ * other one too, where they may be no parts of a docket.
  */
 #include "shared.h"
 
@@ -21,14 +22,16 @@ enum {
     SHOWN = 5                                /* failures of one file that are shown */
 };
 
-/* The parts as they are before each call. */
+/* The version and the parts as they are before each call. */
 struct parts {
+    uint32_t version;
     uint8_t bytes[PARTS][MOST_PART];
     size_t len[PARTS];
 };
 
-/* The parts in one kind of copy. */
+/* The version, and the parts in one kind of copy. */
 struct lent {
+    uint32_t version;
     const uint8_t *part[PARTS];
     const size_t *len;
 };
@@ -66,8 +69,8 @@ static uint64_t make(const struct lent *lent, uint8_t *output, size_t room, uint
 {
     const uint8_t *const *part = lent->part;
     const size_t *len = lent->len;
-    return docket_write(part[0], len[0], part[1], len[1], part[2], len[2], part[3], len[3], part[4], len[4], output,
-                        room, total);
+    return docket_write(lent->version, part[0], len[0], part[1], len[1], part[2], len[2], part[3], len[3], part[4], len[4],
+                        output, room, total);
 }
 
 static size_t total_of(const struct parts *parts)
@@ -88,11 +91,13 @@ static int is_old(const uint8_t *output, size_t from, size_t to)
     return from >= to;
 }
 
-/* Whether the output has the parts behind each other, with their offsets and the total in its header, and docket_check
-   finds no fault in it that the writer looks for. */
+/* Whether the output has the parts behind each other, with the version, their offsets and the total in its header, and
+   docket_check finds no fault in it that the writer looks for. */
 static int is_docket(const struct parts *parts, const uint8_t *output)
 {
     size_t at = HEADER;
+    if (get16(output, 0) != parts->version)
+        return 0;
     for (size_t p = 0; p < PARTS; p++) {
         if (get16(output, 12 + 2 * p) != at || memcmp(output + at, parts->bytes[p], parts->len[p]) != 0)
             return 0;
@@ -158,7 +163,7 @@ static uint64_t try_room(struct file *file, const struct parts *parts, const str
 /* The parts in a kind of copy. */
 static struct lent lend(const struct parts *parts, enum kind kind)
 {
-    struct lent lent = {.len = parts->len};
+    struct lent lent = {.version = parts->version, .len = parts->len};
     for (size_t p = 0; p < PARTS; p++) {
         struct region r = part_regions[kind][p];
         uint8_t *copy = kind == HEAP ? new_block(parts->len[p]) : place(r, kind, parts->len[p]);
@@ -172,10 +177,14 @@ static struct lent lend(const struct parts *parts, enum kind kind)
     return lent;
 }
 
-/* Test 31: its refusal, or 0. */
-static uint64_t length_test(const size_t len[PARTS])
+/* Tests 2 and 31: the refusal, or 0. */
+static uint64_t length_test(const struct parts *parts)
 {
-    const size_t record[PARTS] = {1, 5, 4 * len[0], 12, 4 * len[0]};
+    const size_t *len = parts->len;
+    size_t state = state_length(parts->version);
+    const size_t record[PARTS] = {state, 5, 4 * (len[0] / state), 12, 4 * (len[0] / state)};
+    if (parts->version != 1 && parts->version != 2)
+        return refusal(2, 0);
     for (size_t p = 0; p < PARTS; p++)
         if (record[p] > 0 && len[p] % record[p] != 0)
             return refusal(31, p);
@@ -192,8 +201,8 @@ static uint64_t try_parts(struct file *file, const char *variant, const struct p
     for (enum kind k = HEAP; k < KINDS; k++)
         lent[k] = lend(parts, k);
     uint64_t said = try_room(file, parts, lent, total + BEYOND);
-    uint64_t wrong_length = length_test(parts->len);
-    expect(file, total, (docket_call_number(said) == 31 ? said : 0) == wrong_length, "refusal 31 at the wrong place");
+    uint32_t number = docket_call_number(said);
+    expect(file, total, (number == 2 || number == 31 ? said : 0) == length_test(parts), "another refusal 2 or 31");
     for (size_t i = 0; i < sizeof rooms / sizeof rooms[0]; i++) {
         uint64_t code = try_room(file, parts, lent, rooms[i]);
         uint64_t expected = said == 0 && rooms[i] < total ? refusal(30, 0) : said;
@@ -255,6 +264,18 @@ static void try_variants(struct file *file, struct parts *parts, size_t p)
     }
 }
 
+/* The other version and some that there are not, which test 2 refuses; it is afterwards as it was. */
+static void try_versions(struct file *file, struct parts *parts)
+{
+    const uint32_t old = parts->version;
+    const uint32_t versions[] = {3 - old, 0, 3, 256 + old, 65536 + old, UINT32_MAX};
+    for (size_t i = 0; i < sizeof versions / sizeof versions[0]; i++) {
+        parts->version = versions[i];
+        try_parts(file, i == 0 ? "the other version" : "no version", parts);
+    }
+    parts->version = old;
+}
+
 /* Returns 1 where all that was tried on the parts of the file held, 0 where not, and -1 where it has no parts. */
 static int try_file(const char *name)
 {
@@ -268,6 +289,7 @@ static int try_file(const char *name)
     if (number >= 1 && number <= 4)
         return -1;
     memset(&parts, 0, sizeof parts);
+    parts.version = (uint32_t)get16(file.bytes, 0);
     for (size_t p = 0; p < PARTS; p++) {
         size_t at = get16(file.bytes, 12 + 2 * p);
         parts.len[p] = get16(file.bytes, 14 + 2 * p) - at;
@@ -279,35 +301,53 @@ static int try_file(const char *name)
     expect(&file, file.len, said != 0 || memcmp(last, file.bytes, file.len) == 0, "not the file's own bytes");
     for (size_t p = 0; p < PARTS; p++)
         try_variants(&file, &parts, p);
+    try_versions(&file, &parts);
     return file.failures == 0;
 }
 
-/* Lengths that no memory has, and lengths without states, are refused by themselves, with no look at the bytes. With
-   QUARTER states, four times their number is 0 in 64 bits. The pointers are one and have no such bytes, which no caller
-   may do: only the lengths are looked at. Returns 1 where all are refused so, else 0. */
+/* Lengths that no memory has, lengths without states and versions that there are not are refused by themselves, with no
+   look at the bytes. With QUARTER states, four times their number is 0 in 64 bits; in version 2 no length has so many
+   states. The pointers are one and have no such bytes, which no caller may do: only version and lengths are looked at.
+   Returns 1 where all are refused so, else 0. */
 static int try_lengths(void)
 {
     const size_t QUARTER = SIZE_MAX / 4 + 1, HIGH = (size_t)1 << 32, MOST = PTRDIFF_MAX;
+    const size_t THREES = MOST / 3 * 3; /* the greatest length of whole states in version 2 */
     const struct {
+        uint32_t version;
         size_t len[PARTS];
         uint64_t code;
     } cases[] = {
-        {{QUARTER, 0, 0, 12, 0}, refusal(3, 0)},          {{QUARTER, 0, 4, 12, 0}, refusal(31, 2)},
-        {{QUARTER, 0, 0, 12, 4}, refusal(31, 4)},         {{QUARTER + 1, 5, 4, 12, 0}, refusal(31, 2)},
-        {{QUARTER + 1, 0, 0, 12, 4}, refusal(31, 4)},     {{QUARTER + 2, 5, 8, 12, 8}, refusal(31, 2)},
-        {{QUARTER + 2, 5, 0, 12, 8}, refusal(31, 4)},     {{MOST, 0, 0, 12, 0}, refusal(3, 0)},
-        {{MOST, 0, MOST - 3, 12, 0}, refusal(31, 2)},     {{HIGH + 2, 5, 8, 12, 0}, refusal(31, 2)},
-        {{HIGH + 2, 0, 0, 12, 0}, refusal(3, 0)},         {{2, 5 * (HIGH + 1), 8, 12, 0}, refusal(3, 1)},
-        {{2, MOST, 8, 12, 0}, refusal(31, 1)},            {{2, MOST - 2, 8, 12, 0}, refusal(3, 1)},
-        {{2, 5, 8 * (HIGH + 1), 12, 0}, refusal(3, 2)},   {{2, 5, MOST - 7, 12, 0}, refusal(3, 2)},
-        {{2, 5, 8, 12 * (HIGH + 1), 0}, refusal(3, 3)},   {{2, 5, 8, MOST - 7, 0}, refusal(3, 3)},
-        {{2, 5, 8, 12, 8 * HIGH}, refusal(3, 4)},         {{2, 5, 8, 12, MOST - 7}, refusal(3, 4)},
-        {{0, 0, 1, 12, 0}, refusal(3, 0)},                {{0, 0, 0, 12, 1}, refusal(3, 0)},
-        {{0, 1, 1, 12, 1}, refusal(31, 1)},               {{0, 5, 1, 11, 1}, refusal(31, 3)},
+        {1, {QUARTER, 0, 0, 12, 0}, refusal(3, 0)},        {1, {QUARTER, 0, 4, 12, 0}, refusal(31, 2)},
+        {1, {QUARTER, 0, 0, 12, 4}, refusal(31, 4)},       {1, {QUARTER + 1, 5, 4, 12, 0}, refusal(31, 2)},
+        {1, {QUARTER + 1, 0, 0, 12, 4}, refusal(31, 4)},   {1, {QUARTER + 2, 5, 8, 12, 8}, refusal(31, 2)},
+        {1, {QUARTER + 2, 5, 0, 12, 8}, refusal(31, 4)},   {1, {MOST, 0, 0, 12, 0}, refusal(3, 0)},
+        {1, {MOST, 0, MOST - 3, 12, 0}, refusal(31, 2)},   {1, {HIGH + 2, 5, 8, 12, 0}, refusal(31, 2)},
+        {1, {HIGH + 2, 0, 0, 12, 0}, refusal(3, 0)},       {1, {2, 5 * (HIGH + 1), 8, 12, 0}, refusal(3, 1)},
+        {1, {2, MOST, 8, 12, 0}, refusal(31, 1)},          {1, {2, MOST - 2, 8, 12, 0}, refusal(3, 1)},
+        {1, {2, 5, 8 * (HIGH + 1), 12, 0}, refusal(3, 2)}, {1, {2, 5, MOST - 7, 12, 0}, refusal(3, 2)},
+        {1, {2, 5, 8, 12 * (HIGH + 1), 0}, refusal(3, 3)}, {1, {2, 5, 8, MOST - 7, 0}, refusal(3, 3)},
+        {1, {2, 5, 8, 12, 8 * HIGH}, refusal(3, 4)},       {1, {2, 5, 8, 12, MOST - 7}, refusal(3, 4)},
+        {1, {0, 0, 1, 12, 0}, refusal(3, 0)},              {1, {0, 0, 0, 12, 1}, refusal(3, 0)},
+        {1, {0, 1, 1, 12, 1}, refusal(31, 1)},             {1, {0, 5, 1, 11, 1}, refusal(31, 3)},
+        {2, {THREES, 0, 0, 12, 0}, refusal(3, 0)},         {2, {THREES - 1, 0, 0, 12, 0}, refusal(31, 0)},
+        {2, {THREES - 2, 0, 0, 12, 0}, refusal(31, 0)},    {2, {THREES, 0, 4, 12, 0}, refusal(31, 2)},
+        {2, {THREES, 0, 0, 12, 4}, refusal(31, 4)},        {2, {3 * (HIGH + 2), 5, 8, 12, 0}, refusal(31, 2)},
+        {2, {3 * (HIGH + 2), 0, 0, 12, 0}, refusal(3, 0)}, {2, {3 * HIGH + 1, 0, 0, 12, 0}, refusal(31, 0)},
+        {2, {6, 5 * (HIGH + 1), 8, 12, 0}, refusal(3, 1)}, {2, {6, 5, 8 * (HIGH + 1), 12, 0}, refusal(3, 2)},
+        {2, {6, 5, 8, 12 * (HIGH + 1), 0}, refusal(3, 3)}, {2, {6, 5, 8, 12, 8 * HIGH}, refusal(3, 4)},
+        {2, {6, 5, 24, 12, 4}, refusal(31, 4)},            {2, {0, 0, 1, 12, 1}, refusal(3, 0)},
+        {2, {1, 0, 1, 12, 1}, refusal(31, 0)},             {2, {2, 1, 1, 11, 1}, refusal(31, 0)},
+        {2, {0, 1, 1, 12, 1}, refusal(31, 1)},             {2, {0, 5, 1, 11, 1}, refusal(31, 3)},
+        {0, {2, 5, 8, 12, 0}, refusal(2, 0)},              {3, {6, 5, 8, 12, 0}, refusal(2, 0)},
+        {0, {MOST, MOST, MOST, MOST, 1}, refusal(2, 0)},   {3, {0, 1, 1, 1, 1}, refusal(2, 0)},
+        {258, {6, 5, 8, 12, 0}, refusal(2, 0)},            {65537, {2, 5, 8, 12, 0}, refusal(2, 0)},
+        {65538, {6, 5, 8, 12, 0}, refusal(2, 0)},          {UINT32_MAX, {2, 5, 8, 12, 0}, refusal(2, 0)},
     };
     int good = 1;
     for (size_t i = 0; i < sizeof cases / sizeof cases[0]; i++) {
-        const struct lent lent = {{no_access, no_access, no_access, no_access, no_access}, cases[i].len};
+        const struct lent lent = {
+            cases[i].version, {no_access, no_access, no_access, no_access, no_access}, cases[i].len};
         const uint64_t codes[] = {make(&lent, no_access, 0, no_access), make(&lent, no_access, MOST, no_access)};
         calls_made += 2;
         if (codes[0] == cases[i].code && codes[1] == cases[i].code)

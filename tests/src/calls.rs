@@ -57,8 +57,8 @@ pub fn say(docket: &[u8], counts: &mut [u32], call: Call) -> Said {
 }
 
 /// What the writer of the second implementation says, as docket_write says it: the total is the first answer.
-pub fn write(parts: [&[u8]; 5], output: &mut [u8]) -> Said {
-    second::write(parts, output).map_or_else(Said::refused, |total| Said::done(&[total as u64]))
+pub fn write(version: u32, parts: [&[u8]; 5], output: &mut [u8]) -> Said {
+    second::write(version, parts, output).map_or_else(Said::refused, |total| Said::done(&[total as u64]))
 }
 
 fn verdict_number(verdict: Verdict) -> u64 {

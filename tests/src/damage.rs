@@ -2,14 +2,17 @@
 
 use crate::make::{bits, node, rule};
 use crate::random::Random;
-use second::{Docket, Leaf, Node, Rule};
+use second::{Docket, Leaf, Node, Rule, State};
 
 // ---- Changes that keep a docket accepted
 
-/// The same protocol and certificate written in another way: states and rules numbered anew, weights raised, moduli
-/// multiplied, leaves that no node names.
+/// The same protocol and certificate written in another way: without fixed agents in the other version, states and rules
+/// numbered anew, weights raised, moduli multiplied, leaves that no node names.
 pub fn rewritten(docket: &Docket, random: &mut Random) -> Docket {
     let mut other = docket.clone();
+    if random.chance(1, 4) && docket.states.iter().all(|state| state.fixed == 0) {
+        other.version = 3 - docket.version;
+    }
     if random.chance(2, 3) {
         renumber_states(&mut other, random);
     }
@@ -182,16 +185,49 @@ pub fn damaged(docket: &Docket, random: &mut Random) -> Vec<u8> {
     bytes
 }
 
+/// The docket in version 2 with other numbers of fixed agents in one state or several.
+pub fn other_fixed(docket: &Docket, random: &mut Random) -> Vec<u8> {
+    let mut other = docket.clone();
+    for _ in 0..1 + random.below(3) {
+        damage_fixed(&mut other, random);
+    }
+    other.bytes()
+}
+
 /// Changes one record. Trees and leaves are changed more often than what comes before them.
 fn damage_record(docket: &mut Docket, random: &mut Random) {
-    match random.below(16) {
+    match random.below(18) {
         0 => damage_state(docket, random),
         1 | 2 => damage_rule(docket, random),
         3 => damage_order(docket, random),
         4 | 5 => damage_weight(docket, random),
         6 => damage_leaf(docket, random),
         7 | 8 => damage_tree(docket, random),
+        9 | 10 => damage_fixed(docket, random),
         _ => damage_node(docket, random),
+    }
+}
+
+/// Another number of fixed agents for one state, the first or the last in half of the cases: at a limit, past it or next
+/// to the old one, more than one byte holds, or that of another state. In a docket of version 1 this makes it one of
+/// version 2. Now and then the version alone changes, or whether the state is an input.
+fn damage_fixed(docket: &mut Docket, random: &mut Random) {
+    if random.chance(1, 6) {
+        docket.version = 3 - docket.version;
+        return;
+    }
+    docket.version = 2;
+    let count = docket.states.len();
+    let (at, other) = (random.below(count), random.below(count));
+    let at = *random.pick(&[0, count - 1, at, at]);
+    let other = docket.states[other].fixed;
+    let State { input, fixed, .. } = &mut docket.states[at];
+    match random.below(5) {
+        0 => *input ^= true,
+        1 => *fixed = *random.pick(&[0, 1, 1000, 1001, 65_535]),
+        2 => *fixed = *random.pick(&[255, 256, 257, 1024]),
+        3 => *fixed = other,
+        _ => *fixed = (*fixed + random.pick(&[-1, 1])).clamp(0, 65_535),
     }
 }
 
@@ -422,7 +458,7 @@ fn damage_bytes(bytes: &mut Vec<u8>, random: &mut Random) {
 fn damage_header(bytes: &mut [u8], random: &mut Random) {
     let field = random.below(11);
     let old = u16::from_le_bytes([bytes[2 * field], bytes[2 * field + 1]]);
-    let edges = [0, 1, 2, 16, 17, 64, 65, 128, 129, 256, 257, 2048, 2049, 65_535];
+    let edges = [0, 1, 2, 3, 16, 17, 64, 65, 128, 129, 256, 257, 258, 2048, 2049, 65_535];
     let new = match random.below(3) {
         0 => old.wrapping_add(1),
         1 => old.wrapping_sub(1),
@@ -431,12 +467,12 @@ fn damage_header(bytes: &mut [u8], random: &mut Random) {
     bytes[2 * field..2 * field + 2].copy_from_slice(&new.to_le_bytes());
 }
 
-/// Random bytes, with a header that begins like a docket's in half of the cases.
+/// Random bytes, with a header that begins like that of a docket of either version in half of the cases.
 pub fn noise(random: &mut Random) -> Vec<u8> {
     let len = random.below(160);
     let mut bytes: Vec<u8> = (0..len).map(|_| random.word() as u8).collect();
     if len >= 24 && random.chance(1, 2) {
-        bytes[..2].copy_from_slice(&[1, 0]);
+        bytes[..2].copy_from_slice(&[1 + random.below(2) as u8, 0]);
         bytes[22..24].copy_from_slice(&(len as u16).to_le_bytes());
     }
     bytes
@@ -445,7 +481,7 @@ pub fn noise(random: &mut Random) -> Vec<u8> {
 #[cfg(test)]
 mod tests {
     use super::*;
-    use crate::make::{self, remainder};
+    use crate::make::{self, fixed, remainder};
     use crate::prover;
     use std::collections::BTreeSet;
 
@@ -465,6 +501,11 @@ mod tests {
             remainder::digits(1000, [391, 24]),
             remainder::many_leaves(),
             remainder::largest(1, 10_000),
+            fixed::broadcast(true, 3),
+            fixed::majority(257, 256),
+            fixed::majority(3, 3),
+            fixed::sum(7, 2, &[3, 5, 0, 256]),
+            fixed::largest(),
         ];
         dockets.extend((0..40).filter_map(|_| prover::prove(make::majority(), &mut random)));
         assert!(dockets.len() > 5, "no tree was found for majority");
@@ -490,6 +531,32 @@ mod tests {
             }
         }
         assert_eq!(met.len(), 8, "{met:?}");
+    }
+
+    /// Damage to fixed agents leads to every limit, in inputs and in others, and to each of the answers that it can give.
+    #[test]
+    fn fixed_agents_are_damaged() {
+        let mut random = Random::new(13);
+        let (mut numbers, mut lines) = (BTreeSet::new(), BTreeSet::new());
+        for _ in 0..4000 {
+            let mut docket = fixed::majority(256, 255);
+            damage_fixed(&mut docket, &mut random);
+            let line = second::line(&docket.bytes());
+            lines.insert((docket.version, line[..10].to_string()));
+            let states = docket.states.iter().enumerate();
+            numbers.extend(states.map(|(i, state)| (i, state.fixed)));
+        }
+        let limits = [0, 1, 255, 256, 257, 1000, 1001, 65_535];
+        for state in 0..4 {
+            assert!(limits.iter().all(|&fixed| numbers.contains(&(state, fixed))), "{state}");
+        }
+        let expected = [
+            (1, "refused 13"),
+            (2, "accepted 4"),
+            (2, "refused 13"),
+            (2, "refused 5 "),
+        ];
+        assert_eq!(lines, expected.map(|(version, line)| (version, line.into())).into());
     }
 
     /// Moduli are multiplied up to the limit, and the weights of their leaves come near both limits.

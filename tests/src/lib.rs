@@ -2,6 +2,7 @@
 
 pub mod calls;
 pub mod damage;
+pub mod fixed;
 pub mod make;
 pub mod native;
 pub mod outcomes;
@@ -11,4 +12,5 @@ pub mod random;
 pub mod remainders;
 pub mod samples;
 pub mod tally;
+pub mod versions;
 pub mod writing;

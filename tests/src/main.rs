@@ -11,16 +11,20 @@ use std::io::Write;
 use std::path::{Path, PathBuf};
 use std::process::{Command, Stdio};
 use tests::calls::{self, check_code, Call, UNTOUCHED};
-use tests::make::remainder;
+use tests::make::{fixed, remainder};
 use tests::random::Random;
 use tests::tally::Tally;
-use tests::{damage, make, native, outcomes, parts, prover, remainders, samples, writing};
+use tests::{damage, fixed as fixed_agents, make, native, outcomes, parts, prover, remainders, samples};
+use tests::{versions, writing};
 
 const THREADS: u64 = 2;
 const DOCKETS: u64 = 400_000;
 const LISTS: u64 = 100_000;
 const WRITES: u64 = 150_000;
 const LINES: u64 = 4_000;
+
+/// One of so many dockets of version 1, and of lists of calls on them, is tried in version 2 too.
+const CONVERTED: u64 = 4;
 
 struct Results {
     passed: u64,
@@ -52,10 +56,12 @@ fn main() {
     run_written(&mut results);
     let pool = Pool::new(seed, corpus);
     println!(
-        "{} accepted dockets to begin with, of them {} large",
-        pool.small.len() + pool.large.len(),
+        "{} accepted dockets to begin with, of them {} of version 2 and {} large",
+        pool.all().count(),
+        pool.all().filter(|docket| docket.version == 2).count(),
         pool.large.len()
     );
+    results.expect("accepted dockets of version 1 in version 2", pool.version_problem());
     let tally = compare_all(&pool, seed, times);
     report(&tally);
     results.expect("both implementations say the same", differences(&tally));
@@ -92,18 +98,48 @@ fn report(tally: &Tally) {
         "several rules for a pair, dockets by refusal (0: accepted): {:?}; {} steps, {} runs",
         tally.outcomes, tally.outcome_steps, tally.outcome_runs
     );
+    report_fixed(tally);
     let writes = &tally.writes;
     println!(
-        "{} dockets written again; {} changed parts, written by bytes beyond the total (2: more): {:?}",
+        "{:?} dockets written again by version; {} changed parts, written by version and bytes beyond the total (2: more): {:?}",
         writes.again, writes.calls, writes.written
     );
     println!(
-        "writer: refusals 31 and 3 by least number of states, number and place: {:?}",
+        "writer: refusals 31 and 3 by version, least number of states, number and place: {:?}",
         writes.states
+    );
+    println!(
+        "writer: versions refused: {:?}; bytes beyond whole states: {:?}",
+        writes.versions, writes.cut
     );
     for (number, places) in &writes.places {
         println!("writer: refusal {number} at {} places", places.len());
     }
+}
+
+fn report_fixed(tally: &Tally) {
+    let fixed = &tally.fixed;
+    println!("dockets by version and refusal (0: accepted): {:?}", fixed.versions);
+    println!(
+        "version 2: accepted dockets by whether they have fixed agents and by kind of node: {:?}",
+        fixed.kinds
+    );
+    println!(
+        "version 2: fixed numbers by refusal (0: accepted) and whether in an input: {:?}",
+        fixed.numbers
+    );
+    println!(
+        "version 2: dockets that another reading of the fixed numbers judges otherwise, by whether accepted and kind: {:?}",
+        fixed.needed
+    );
+    println!(
+        "version 1 in version 2: dockets by refusal (0: accepted): {:?}; {} calls",
+        fixed.converted, fixed.converted_calls
+    );
+    println!(
+        "starts with fixed agents by refusal (0: passed), whether in an input, agents more: {:?}; all zeros: {:?}; {} steps and runs",
+        fixed.starts, fixed.zeros, fixed.meetings
+    );
 }
 
 fn differences(tally: &Tally) -> Option<String> {
@@ -119,11 +155,13 @@ fn run_samples(results: &mut Results) {
         samples::edges(),
         outcomes::lines(),
         remainders::lines(),
+        fixed_agents::lines(),
     ];
     for (name, docket, line) in lines.concat() {
         results.expect(name, line_problem(&docket, line));
     }
-    for sample in samples::calls().into_iter().chain(outcomes::calls()) {
+    let calls = [samples::calls(), outcomes::calls(), fixed_agents::calls()];
+    for sample in calls.into_iter().flatten() {
         results.expect(sample.name, call_problem(&sample));
     }
     for (name, problem) in writing::samples() {
@@ -132,7 +170,8 @@ fn run_samples(results: &mut Results) {
     results.expect("standard input that cannot be read", unreadable_problem());
 }
 
-/// What is wrong with what the two implementations and the program say of a docket, or with how its parts are written.
+/// What is wrong with what the two implementations and the program say of a docket, in either version, or with how its
+/// parts are written.
 fn line_problem(docket: &[u8], line: &str) -> Option<String> {
     let (second, printed) = (second::line(docket), printed_line(docket));
     let (native, code) = (native::check(docket), check_code(docket));
@@ -143,7 +182,7 @@ fn line_problem(docket: &[u8], line: &str) -> Option<String> {
             "expected {line}, second {second:?}, printed {printed:?}, {codes}"
         ));
     }
-    writing::write_again(docket).err()
+    versions::problem(docket, code).or_else(|| writing::write_again(docket).err())
 }
 
 /// Whether docket_figures says of a docket what the second implementation says.
@@ -203,7 +242,7 @@ fn unreadable_problem() -> Option<String> {
 }
 
 /// The least number of dockets in the corpus, so that it is seen where some are gone.
-const CORPUS: usize = 73;
+const CORPUS: usize = 105;
 
 /// Runs the corpus; hands back its accepted dockets.
 fn run_corpus(results: &mut Results) -> Vec<Docket> {
@@ -229,7 +268,7 @@ fn run_corpus(results: &mut Results) -> Vec<Docket> {
 }
 
 /// The least number of cases of the writer in the corpus.
-const CASES: usize = 20;
+const CASES: usize = 25;
 
 /// Runs the writer's cases of the corpus.
 fn run_written(results: &mut Results) {
@@ -263,9 +302,24 @@ impl Pool {
                 .filter_map(|_| prover::random_docket(&mut random))
                 .filter(|docket| docket.nodes.len() > 2),
         );
+        all.extend(
+            (0..2_000)
+                .filter_map(|_| prover::random_fixed(&mut random))
+                .filter(|docket| docket.nodes.len() > 2),
+        );
         let is_large = |docket: &Docket| docket.nodes.len() > 300 || docket.rules.len() > 150;
         let (large, small) = all.into_iter().partition(is_large);
         Pool { small, large }
+    }
+
+    fn all(&self) -> impl Iterator<Item = &Docket> {
+        self.small.iter().chain(&self.large)
+    }
+
+    /// What is wrong with one of the dockets of version 1 in version 2, where it is accepted too.
+    fn version_problem(&self) -> Option<String> {
+        let mut dockets = self.all().map(Docket::bytes);
+        dockets.find_map(|docket| versions::problem(&docket, 0))
     }
 
     fn draw(&self, random: &mut Random) -> &Docket {
@@ -273,7 +327,7 @@ impl Pool {
         random.pick(if large { &self.large } else { &self.small })
     }
 
-    /// A docket's bytes: as they are, written in another way, damaged, or noise.
+    /// A docket's bytes: as they are, written in another way, damaged, with other fixed agents, or noise.
     fn input(&self, random: &mut Random) -> Vec<u8> {
         let docket = self.draw(random);
         match random.below(12) {
@@ -281,6 +335,7 @@ impl Pool {
             1 | 2 => damage::rewritten(docket, random).bytes(),
             3 => damage::noise(random),
             4 | 5 => damage::damaged(&damage::rewritten(docket, random), random),
+            6 => damage::other_fixed(docket, random),
             _ => damage::damaged(docket, random),
         }
     }
@@ -312,6 +367,34 @@ fn families(random: &mut Random) -> Vec<Docket> {
         all.push(make::outcomes(9 + layers, 16 * layers, layers));
     }
     all.extend(remainder_families(random));
+    all.extend(fixed_families(random));
+    all
+}
+
+/// The families with fixed agents, with random numbers of them.
+fn fixed_families(random: &mut Random) -> Vec<Docket> {
+    let mut all = vec![
+        fixed::largest(),
+        fixed::layered(64, 3, 100, 20),
+        fixed::with_fixed(make::largest(), &[1000]),
+        fixed::with_fixed(make::still(2), &[]),
+        fixed::with_fixed(make::still(64), &[1; 64]),
+        fixed::with_fixed(make::last_no_input(), &[[0; 63].as_slice(), &[1000]].concat()),
+    ];
+    for number in [1, 2, 255, 256, 257, 1000] {
+        all.push(fixed::broadcast(true, number));
+        all.push(fixed::broadcast(false, number));
+        all.push(fixed::majority(number, number - 1));
+        all.push(fixed::majority(number - 1, number));
+        all.push(fixed::majority(number, number));
+    }
+    for m in 2..=18 {
+        for most in [3, 300, 1001] {
+            let mut numbers: Vec<i64> = (0..m).map(|_| random.below(most) as i64).collect();
+            numbers[m - 1] = 1 + random.below(1000) as i64;
+            all.push(fixed::sum(m, random.below(m), &numbers));
+        }
+    }
     all
 }
 
@@ -355,6 +438,9 @@ fn compare_some(pool: &Pool, mut random: Random, times: u64) -> Tally {
     for i in 0..DOCKETS * times {
         let docket = pool.input(&mut random);
         compare_check(&mut tally, &docket);
+        if i % CONVERTED == 0 {
+            compare_versions(&mut tally, &docket);
+        }
         if i % (DOCKETS / LINES) == 0 {
             compare_line(&mut tally, &docket);
         }
@@ -380,6 +466,18 @@ fn compare_check(tally: &mut Tally, docket: &[u8]) {
     tally.count_docket(docket, code);
 }
 
+/// A docket of version 1 in version 2.
+fn compare_versions(tally: &mut Tally, docket: &[u8]) {
+    if versions::in_version_2(docket).is_none() {
+        return;
+    }
+    let code = check_code(docket);
+    match versions::problem(docket, code) {
+        Some(problem) => tally.differ(docket, problem),
+        None => *tally.fixed.converted.entry((code / 65_536) as u32).or_default() += 1,
+    }
+}
+
 fn compare_line(tally: &mut Tally, docket: &[u8]) {
     let (printed, line) = (printed_line(docket), second::line(docket));
     if printed != line {
@@ -392,18 +490,20 @@ fn compare_line(tally: &mut Tally, docket: &[u8]) {
 fn compare_write(tally: &mut Tally, pool: &Pool, random: &mut Random) {
     let docket = pool.input(random);
     match writing::write_again(&docket) {
-        Ok(written) => tally.writes.again += u64::from(written),
+        Ok(true) => *tally.writes.again.entry(u32::from(docket[0])).or_default() += 1,
+        Ok(false) => {}
         Err(problem) => return tally.differ(&docket, format!("its parts: {problem}")),
     }
     let other = pool.draw(random).bytes();
     let sections = second::sections(&docket).or(second::sections(&other));
-    let changed = parts::changed(sections.unwrap_or_default(), random);
+    let (version, sections) = sections.expect("the sections of an accepted docket");
+    let (version, changed) = parts::changed(version, sections, random);
     let parts = parts::slices(&changed);
     let room = parts::room(&parts, random);
-    match writing::write_both(parts, &writing::old_bytes(room)) {
-        Ok((said, _)) => tally.writes.count(parts, room, &said),
+    match writing::write_both(version, parts, &writing::old_bytes(room)) {
+        Ok((said, _)) => tally.writes.count(version, parts, room, &said),
         Err(problem) => {
-            let input = writing::text(parts, room);
+            let input = writing::text(version, parts, room);
             tally.differences.push(format!("parts {input}\n  {problem}"));
         }
     }
@@ -420,10 +520,15 @@ fn compare_list(tally: &mut Tally, pool: &Pool, random: &mut Random) {
     let states = parsed.as_ref().map_or(random.below(66), |docket| docket.states.len());
     let rules = parsed.as_ref().map_or(0, |docket| docket.rules.len());
     let mut counts = random_counts(parsed.as_ref(), states, random);
+    let converted = versions::in_version_2(&docket).filter(|_| random.chance(1, CONVERTED as usize));
     for _ in 0..1 + random.below(10) {
         let call = random_call(rules, random);
         let mut others = counts.clone();
         let before = docket.clone();
+        let in_version_2 = converted.as_ref().map(|docket| {
+            let mut counts = counts.clone();
+            (native::say(docket, &mut counts, call), counts)
+        });
         let (native, second) = (
             native::say(&docket, &mut counts, call),
             calls::say(&docket, &mut others, call),
@@ -433,24 +538,27 @@ fn compare_list(tally: &mut Tally, pool: &Pool, random: &mut Random) {
             tally.differ(&docket, what);
             return;
         }
+        if let Some(other) = in_version_2 {
+            if other != (native, counts.clone()) {
+                return tally.differ(&docket, format!("{call:?}: {native:?}, in version 2: {other:?}"));
+            }
+            tally.fixed.converted_calls += 1;
+        }
         tally.count_call(&docket, call, &native);
+        if let Some(parsed) = &parsed {
+            tally.fixed.count_call(parsed, &counts, call, &native);
+        }
     }
 }
 
-/// Counts in input states, or in any; now and then of a wrong length or of a size at a limit or past it.
+/// The counts of a start or nearly so, or any; now and then of a wrong length or of a size at a limit or past it.
 fn random_counts(docket: Option<&Docket>, states: usize, random: &mut Random) -> Vec<u32> {
-    let inputs_only = random.chance(2, 3);
+    let is_start = random.chance(2, 3);
     let most = *random.pick(&[2, 3, 6, 30, 300]);
-    let input = |i: usize| docket.is_none_or(|docket| docket.states[i].input);
-    let mut counts: Vec<u32> = (0..states)
-        .map(|i| {
-            if inputs_only && !input(i) {
-                0
-            } else {
-                random.below(most) as u32
-            }
-        })
-        .collect();
+    let mut counts: Vec<u32> = match docket {
+        Some(docket) if is_start => start_counts(docket, most, random),
+        _ => (0..states).map(|_| random.below(most) as u32).collect(),
+    };
     match random.below(16) {
         0 => counts.truncate(random.below(states + 1)),
         1 => counts.push(random.below(3) as u32),
@@ -460,6 +568,22 @@ fn random_counts(docket: Option<&Docket>, states: usize, random: &mut Random) ->
             counts.fill(0);
             counts[random.below(states)] = 1_000_000;
         }
+        _ => {}
+    }
+    counts
+}
+
+/// The fixed agents, and any number more in input states; in a third of the cases one state has one agent more or less,
+/// or none.
+fn start_counts(docket: &Docket, most: usize, random: &mut Random) -> Vec<u32> {
+    let mut more = |input: bool| if input { random.below(most) as u32 } else { 0 };
+    let states = docket.states.iter();
+    let mut counts: Vec<u32> = states.map(|state| state.fixed as u32 + more(state.input)).collect();
+    let count = &mut counts[random.below(docket.states.len())];
+    match random.below(9) {
+        0 => *count += 1,
+        1 => *count = count.saturating_sub(1),
+        2 => *count = 0,
         _ => {}
     }
     counts

@@ -1,5 +1,6 @@
 //! Families of accepted dockets.
 
+pub mod fixed;
 pub mod remainder;
 
 use second::{Docket, Leaf, Node, Rule, State};
@@ -43,7 +44,11 @@ pub fn rule(before: [usize; 2], after: [usize; 2], layer: usize) -> Rule {
 }
 
 fn state(verdict: u8, input: bool) -> State {
-    State { verdict, input }
+    State {
+        verdict,
+        input,
+        fixed: 0,
+    }
 }
 
 /// Document 01's broadcast: one worker in state 1 draws all others there.
@@ -54,6 +59,7 @@ pub fn broadcast() -> Docket {
 /// States 0 and 1 have two rules, 0 1 to 1 1 and 0 1 to 1 2.
 pub fn two_outcomes() -> Docket {
     Docket {
+        version: 1,
         states: vec![state(0, true), state(1, true), state(1, false)],
         rules: vec![
             rule([0, 1], [1, 1], 0),
@@ -77,6 +83,7 @@ pub fn two_outcomes() -> Docket {
 /// Document 01's majority, with no tree: states A, B, a, b.
 pub fn majority() -> Docket {
     Docket {
+        version: 1,
         states: vec![state(0, true), state(1, true), state(0, false), state(1, false)],
         rules: vec![
             rule([0, 1], [2, 3], 0),
@@ -100,6 +107,7 @@ pub fn maximum(verdicts: &[u8]) -> Docket {
         }
     }
     let mut docket = Docket {
+        version: 1,
         states: verdicts.iter().map(|&verdict| state(verdict, true)).collect(),
         rules,
         weights: vec![(0..k as i64).rev().collect()],
@@ -147,6 +155,7 @@ fn greatest_present(verdicts: &[u8], greatest: usize) -> Vec<Node> {
 pub fn relay(states: usize, nodes: usize) -> Docket {
     let last = states - 1;
     Docket {
+        version: 1,
         states: (0..states)
             .map(|i| state(u8::from(i > 0), i == 0 || i == last))
             .collect(),
@@ -234,6 +243,7 @@ fn layer_from_top(r: usize, rules: usize, layers: usize) -> usize {
 fn unreached(states: usize, rules: Vec<Rule>, nodes: usize, leaves: usize) -> Docket {
     let layers = 1 + rules.iter().map(|rule| rule.layer).max().unwrap_or(0);
     Docket {
+        version: 1,
         states: (0..states).map(|i| state(u8::from(i > 0), i == 0)).collect(),
         rules,
         weights: rising_weights(states, layers),
@@ -268,6 +278,7 @@ fn one_state_leaf(states: usize, weight: i64) -> Leaf {
 /// No rule at all: every group is at a standstill, and all states have verdict 0.
 pub fn still(states: usize) -> Docket {
     Docket {
+        version: 1,
         states: vec![state(0, true); states],
         rules: vec![],
         weights: vec![],
@@ -288,6 +299,7 @@ pub fn deep(depth: usize) -> Docket {
     let mut nodes = vec![node(3, 1, 0); depth - 1];
     nodes.push(node(1, 1, 0));
     Docket {
+        version: 1,
         states: vec![state(1, true), state(1, false)],
         rules: vec![rule([0, 0], [0, 1], 0)],
         weights: vec![vec![1, 0]],

@@ -39,6 +39,7 @@ extern "C" {
     ) -> u64;
     fn docket_figures(docket: *const u8, docket_len: usize, figures: *mut u64) -> u64;
     fn docket_write(
+        version: u32,
         states: *const u8,
         states_len: usize,
         rules: *const u8,
@@ -90,13 +91,17 @@ pub fn say(docket: &[u8], counts: &mut [u32], call: Call) -> Said {
 }
 
 /// What docket_write says; the output is lent as it is.
-pub fn write(parts: [&[u8]; 5], output: &mut [u8]) -> Said {
+pub fn write(version: u32, parts: [&[u8]; 5], output: &mut [u8]) -> Said {
     let [s, r, l, n, k] = parts.map(|part| part.as_ptr());
     let [s_len, r_len, l_len, n_len, k_len] = parts.map(|part| part.len());
     let (d, d_len) = (output.as_mut_ptr(), output.len());
     let mut answers = [UNTOUCHED; 2];
     let total = &mut answers[0];
     // SAFETY: each pointer and length are those of one slice, the output and the answer are writable, and none overlap.
-    let code = unsafe { docket_write(s, s_len, r, r_len, l, l_len, n, n_len, k, k_len, d, d_len, total) };
+    let code = unsafe {
+        docket_write(
+            version, s, s_len, r, r_len, l, l_len, n, n_len, k, k_len, d, d_len, total,
+        )
+    };
     Said { code, answers }
 }

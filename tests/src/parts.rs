@@ -1,7 +1,7 @@
-//! Random parts for the writer: the sections of dockets, as they are or changed, and lengths of the output.
+//! Random parts for the writer: versions, the sections of dockets, as they are or changed, and lengths of the output.
 
 use crate::random::Random;
-use second::record_lengths;
+use second::{record_lengths, state_length};
 
 /// The bytes of the states, rules, layers, nodes and leaves.
 pub type Parts = [Vec<u8>; 5];
@@ -24,18 +24,28 @@ pub fn slices(parts: &Parts) -> [&[u8]; 5] {
     std::array::from_fn(|place| &parts[place][..])
 }
 
-/// The parts with up to two changes.
-pub fn changed(parts: [&[u8]; 5], random: &mut Random) -> Parts {
+/// Versions that the writer is told: both, others, and some whose lowest 8 or 16 bits are those of one of both.
+const VERSIONS: [u32; 10] = [0, 1, 2, 3, 257, 258, 65_535, 65_537, 65_538, u32::MAX];
+
+/// The version, or now and then another one; and the parts with up to two changes.
+pub fn changed(version: u32, parts: [&[u8]; 5], random: &mut Random) -> (u32, Parts) {
+    let other = *random.pick(&VERSIONS);
+    let version = if random.chance(1, 16) { other } else { version };
     let mut parts = parts.map(<[u8]>::to_vec);
     for _ in 0..random.below(3) {
-        change(&mut parts, random);
+        change(version, &mut parts, random);
     }
-    parts
+    (version, parts)
 }
 
-fn change(parts: &mut Parts, random: &mut Random) {
+/// How many bytes a record of each part has, by the states that there are.
+fn records_of(version: u32, parts: &Parts) -> [usize; 5] {
+    record_lengths(version, parts[0].len() / state_length(version))
+}
+
+fn change(version: u32, parts: &mut Parts, random: &mut Random) {
     let place = random.below(5);
-    let record = record_lengths(parts[0].len())[place];
+    let record = records_of(version, parts)[place];
     let part = &mut parts[place];
     match random.below(11) {
         0..=3 => change_bytes(part, record, random),
@@ -44,7 +54,7 @@ fn change(parts: &mut Parts, random: &mut Random) {
         6 => resize(part, |len| len + 1 + random.below(40)),
         7 => part.clear(),
         8 => parts.swap(place, random.below(5)),
-        9 => change_states(parts, random),
+        9 => change_states(version, parts, random),
         _ => change_count(part, LIMITS[place], record, random),
     }
 }
@@ -79,17 +89,17 @@ fn copy_record(part: &mut [u8], record: usize, random: &mut Random) {
     }
 }
 
-/// Another number of states, most often outside its limits; in half of the cases layers and leaves keep their numbers
-/// of records, or nearly so.
-fn change_states(parts: &mut Parts, random: &mut Random) {
+/// Another number of states, most often outside its limits, now and then with a part of one more; in half of the cases
+/// layers and leaves keep their numbers of records, or nearly so.
+fn change_states(version: u32, parts: &mut Parts, random: &mut Random) {
     let states = match random.below(16) {
         0 | 1 => MOST_16 + 1 + random.below(66),
         2..=4 => 0,
         5..=8 => *random.pick(&[1, 2, 63, 64, 65]),
         _ => 65 + random.below(400),
     };
-    let old = record_lengths(parts[0].len());
-    let new = record_lengths(states);
+    let old = records_of(version, parts);
+    let new = record_lengths(version, states);
     if random.chance(1, 2) {
         let fewer = random.below(4) * random.below(2);
         for place in [2, 4] {
@@ -97,7 +107,8 @@ fn change_states(parts: &mut Parts, random: &mut Random) {
             resize(&mut parts[place], |_| (count * new[place]).saturating_sub(fewer));
         }
     }
-    resize(&mut parts[0], |_| states);
+    let beyond = random.below(new[0]) * usize::from(random.chance(1, 4));
+    resize(&mut parts[0], |_| new[0] * states + beyond);
 }
 
 /// Another number of records: at a limit, one past it, or such that its lowest 16 bits are within the limits.
@@ -133,26 +144,43 @@ pub fn room(parts: &[&[u8]; 5], random: &mut Random) -> usize {
 #[cfg(test)]
 mod tests {
     use super::*;
-    use crate::make;
-    use std::collections::BTreeMap;
+    use crate::make::{self, fixed::with_fixed};
+    use std::collections::{BTreeMap, BTreeSet};
 
-    /// The changes lead to every refusal of the writer, and many leave parts that it writes.
+    /// The changes lead to every refusal of the writer, and many leave parts that it writes; in both versions.
     #[test]
     fn changes_show() {
         let mut random = Random::new(1);
-        let bytes = make::layered(8, 10, 3, 30, 3).bytes();
-        let sections = second::sections(&bytes).expect("its sections");
-        let mut met = BTreeMap::new();
-        for _ in 0..4000 {
-            let parts = changed(sections, &mut random);
-            let mut output = vec![0; room(&slices(&parts), &mut random)];
-            let said = second::write(slices(&parts), &mut output);
-            *met.entry(said.map_or_else(|refusal| refusal.number, |_| 0))
-                .or_insert(0) += 1;
+        let old = make::layered(8, 10, 3, 30, 3);
+        for docket in [old.clone(), with_fixed(old, &[0, 7, 300])] {
+            let bytes = docket.bytes();
+            let (version, sections) = second::sections(&bytes).expect("its sections");
+            let mut met = BTreeMap::new();
+            for _ in 0..4000 {
+                let (version, parts) = changed(version, sections, &mut random);
+                let mut output = vec![0; room(&slices(&parts), &mut random)];
+                let said = second::write(version, slices(&parts), &mut output);
+                *met.entry(said.map_or_else(|refusal| refusal.number, |_| 0))
+                    .or_insert(0) += 1;
+            }
+            let numbers: Vec<u32> = met.keys().copied().collect();
+            assert_eq!(numbers, [0, 2, 3, 5, 6, 7, 8, 11, 30, 31], "{met:?}");
+            assert!(met.values().all(|&times| times > 20) && met[&0] > 800, "{met:?}");
         }
-        let numbers: Vec<u32> = met.keys().copied().collect();
-        assert_eq!(numbers, [0, 3, 5, 6, 7, 8, 11, 30, 31], "{met:?}");
-        assert!(met.values().all(|&times| times > 20) && met[&0] > 800, "{met:?}");
+    }
+
+    /// In version 2 the states are cut to 3S bytes, one more and two more, for numbers of states of every kind.
+    #[test]
+    fn states_are_cut() {
+        let mut random = Random::new(2);
+        let mut met = BTreeSet::new();
+        for _ in 0..4000 {
+            let mut parts: Parts = [vec![2; 6], vec![], vec![], vec![], vec![]];
+            change_states(2, &mut parts, &mut random);
+            let (states, beyond) = (parts[0].len() / 3, parts[0].len() % 3);
+            met.insert((states.min(3), beyond));
+        }
+        assert_eq!(met.len(), 12, "{met:?}");
     }
 
     #[test]

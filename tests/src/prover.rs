@@ -1,7 +1,8 @@
-//! Random small protocols with certificates: weights come first and rules are chosen to lower them; a tree of arguments
-//! is searched for by traps, siphons, leaves with weights -1 to 1, remainders with small moduli, and cases.
+//! Random small protocols with certificates, with and without fixed agents: weights come first and rules are chosen to
+//! lower them; a tree of arguments is searched for by traps, siphons, leaves with weights -1 to 1, remainders with small
+//! moduli, and cases.
 
-use crate::make::{node, remainder, remainder_node, rule};
+use crate::make::{self, node, remainder, remainder_node, rule};
 use crate::random::Random;
 use second::{Docket, Leaf, Node, State};
 
@@ -27,6 +28,37 @@ pub fn random_docket(random: &mut Random) -> Option<Docket> {
     prove(protocol, random)
 }
 
+/// An accepted docket of version 2 of a random protocol with fixed agents, small or near majority or near one that counts
+/// modulo 2; none where this try fails.
+pub fn random_fixed(random: &mut Random) -> Option<Docket> {
+    let mut docket = match random.below(8) {
+        0 => make::majority(),
+        1 | 2 => near_parity_protocol(random),
+        _ => random_protocol(random)?,
+    };
+    docket.version = 2;
+    if random.chance(1, 2) {
+        change_inputs(&mut docket, random);
+    }
+    for state in &mut docket.states {
+        if random.chance(1, 2) {
+            state.fixed = *random.pick(&FIXED);
+        }
+    }
+    prove(docket, random)
+}
+
+/// The numbers of fixed agents that are tried.
+const FIXED: [i64; 12] = [1, 1, 1, 2, 2, 2, 3, 3, 255, 256, 257, 1000];
+
+/// One random state alone is an input.
+fn change_inputs(docket: &mut Docket, random: &mut Random) {
+    let input = random.below(docket.states.len());
+    for (i, state) in docket.states.iter_mut().enumerate() {
+        state.input = i == input;
+    }
+}
+
 /// A random protocol of 2 to 4 states that passes tests 1 to 10, with a tree of one node that proves nothing.
 fn random_protocol(random: &mut Random) -> Option<Docket> {
     let count = 2 + random.below(3);
@@ -34,8 +66,10 @@ fn random_protocol(random: &mut Random) -> Option<Docket> {
     let states = (0..count).map(|i| State {
         verdict: random.below(2) as u8,
         input: i == input || random.chance(1, 2),
+        fixed: 0,
     });
     let mut docket = Docket {
+        version: 1,
         states: states.collect(),
         rules: vec![],
         weights: vec![],
@@ -56,6 +90,11 @@ fn random_protocol(random: &mut Random) -> Option<Docket> {
 
 /// An accepted docket of a random protocol near one that counts modulo 2; none where this try fails.
 pub fn near_parity(random: &mut Random) -> Option<Docket> {
+    let docket = near_parity_protocol(random);
+    prove(docket, random)
+}
+
+fn near_parity_protocol(random: &mut Random) -> Docket {
     let mut docket = match random.below(2) {
         0 => remainder::parity(),
         _ => remainder::table(2, random.below(2), &[1]),
@@ -63,7 +102,7 @@ pub fn near_parity(random: &mut Random) -> Option<Docket> {
     for _ in 0..random.below(4) {
         change_protocol(&mut docket, random);
     }
-    prove(docket, random)
+    docket
 }
 
 /// Drops or adds a rule, or changes the verdict of a state or whether it is an input.
@@ -98,7 +137,8 @@ pub fn prove(mut docket: Docket, random: &mut Random) -> Option<Docket> {
     docket.nodes.clear();
     docket.leaves.clear();
     let mut facts = Facts::default();
-    facts.absent[0] = states_where(&docket, |state| !state.input);
+    facts.absent[0] = states_where(&docket, |state| !state.input && state.fixed == 0);
+    facts.present[0] = states_where(&docket, |state| state.fixed > 0);
     let mut search = Search { docket, random };
     search.close(facts, 1)?;
     second::check(&search.docket.bytes()).is_ok().then_some(search.docket)
@@ -239,14 +279,25 @@ impl Search<'_> {
     /// A leaf that closes by the remainder rule.
     fn remainder(&self, facts: &Facts, m: i64) -> Option<Leaf> {
         let exactly_one = |party: usize| facts.present[party] & facts.at_most_one[party] & !facts.absent[party];
-        if exactly_one(1) | exactly_one(2) == 0 {
+        let fixed = states_where(&self.docket, State::only_fixed) & !facts.absent[0];
+        if exactly_one(1) | exactly_one(2) | fixed == 0 {
             return None;
         }
         let sides = [1, 2].map(|party| self.remainder_sides(facts, party, exactly_one(party), m));
-        let start: Vec<usize> = self.not_absent(facts, 0).collect();
         first_leaf(&sides, |y1, y2, sum| {
-            sum % m != 0 && start.iter().all(|&i| (y1[i] + y2[i]) % m == 0)
+            let start = self.start_remainder(facts, y1, y2, m);
+            start.is_some_and(|start| (sum - start) % m != 0)
         })
+    }
+
+    /// The sum over the fixed agents of states that are no inputs; none where y1 + y2 is not 0 modulo m elsewhere.
+    fn start_remainder(&self, facts: &Facts, y1: &[i64], y2: &[i64], m: i64) -> Option<i64> {
+        let here = self
+            .not_absent(facts, 0)
+            .map(|i| (&self.docket.states[i], y1[i] + y2[i]));
+        let (fixed, others): (Vec<_>, Vec<_>) = here.partition(|(state, _)| state.only_fixed());
+        let fit = others.iter().all(|(_, both)| both % m == 0);
+        fit.then(|| fixed.iter().map(|(state, both)| state.fixed * both).sum())
     }
 
     /// The weights for one end that the rules and the end allow, with their part of the lower sum.
@@ -297,11 +348,15 @@ impl Search<'_> {
     }
 
     fn upper_sum(&self, facts: &Facts, y1: &[i64], y2: &[i64]) -> Option<i64> {
-        let here = (0..y1.len()).filter(|&i| facts.absent[0] >> i & 1 == 0);
-        let sums: Vec<(usize, i64)> = here.map(|i| (i, y1[i] + y2[i])).collect();
-        let fit = sums.iter().all(|&(_, sum)| sum <= 0);
-        let present = sums.iter().filter(|(i, _)| facts.present[0] >> i & 1 == 1);
-        fit.then(|| present.map(|&(_, sum)| sum).sum())
+        let mut sum = 0;
+        for i in self.not_absent(facts, 0) {
+            let (state, both) = (&self.docket.states[i], y1[i] + y2[i]);
+            if both > 0 && !state.only_fixed() {
+                return None;
+            }
+            sum += both * state.fixed.max((facts.present[0] >> i & 1) as i64);
+        }
+        Some(sum)
     }
 
     /// A random case that is still open: a rule not enabled at an end, or a state absent or present.
@@ -366,6 +421,31 @@ mod tests {
             let count = dockets.iter().filter(found).count();
             assert!(20 * count > dockets.len(), "{count} of {}", dockets.len());
         }
+    }
+
+    /// Trees are found that need the fixed agents, or their number, at nodes of kinds 0, 2 and 7.
+    #[test]
+    fn fixed_agents_close_trees() {
+        let mut random = Random::new(12);
+        let dockets: Vec<Docket> = (0..4000).filter_map(|_| random_fixed(&mut random)).collect();
+        for (most, kinds) in [(0, vec![0, 2, 7]), (1, vec![0, 7])] {
+            let needed: Vec<u8> = dockets.iter().filter_map(|docket| needed_kind(docket, most)).collect();
+            for kind in kinds {
+                let count = needed.iter().filter(|&&other| other == kind).count();
+                assert!(count > 20, "{most}, kind {kind}: {count} of {}", dockets.len());
+            }
+        }
+    }
+
+    /// The kind of the node that is refused where no fixed number is above this one; none where it is accepted still.
+    fn needed_kind(docket: &Docket, most: i64) -> Option<u8> {
+        let mut other = docket.clone();
+        other
+            .states
+            .iter_mut()
+            .for_each(|state| state.fixed = state.fixed.min(most));
+        let refusal = second::check(&other.bytes()).err()?;
+        Some(other.nodes[refusal.place as usize].kind)
     }
 
     /// Trees of tables that count modulo 2, and of protocols near them, are closed by remainders.

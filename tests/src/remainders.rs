@@ -78,12 +78,12 @@ pub fn lines() -> Vec<Sample> {
 }
 
 /// The fields of a row of a text.
-fn row<const COUNT: usize>(text: &'static str) -> [&'static str; COUNT] {
+pub fn row<const COUNT: usize>(text: &'static str) -> [&'static str; COUNT] {
     let mut fields = text.split(" | ");
     std::array::from_fn(|_| fields.next().expect("another field"))
 }
 
-fn numbers(text: &str) -> Vec<i64> {
+pub fn numbers(text: &str) -> Vec<i64> {
     let words = text.split_whitespace();
     words.map(|number| number.parse().expect("a number")).collect()
 }
@@ -106,14 +106,24 @@ fn number(text: &'static str) -> Sample {
 /// States A, B, C and D, of which A and B are inputs, with the rules A A to C C, B B to C C and D D to C D. No state has
 /// verdict 0, so kind 1 closes for party 1. The tree closes so except where the facts hold, and there by kind 7.
 fn closed(facts: &str, modulus: &str, y1: Vec<i64>, y2: Vec<i64>) -> Docket {
-    let state = |input: bool| State { verdict: 1, input };
     let modulus = modulus.parse().expect("a modulus");
+    closed_by(remainder_node(0, modulus), facts, y1, y2)
+}
+
+/// The same with another last node.
+pub fn closed_by(last: Node, facts: &str, y1: Vec<i64>, y2: Vec<i64>) -> Docket {
+    let state = |input: bool| State {
+        verdict: 1,
+        input,
+        fixed: 0,
+    };
     let words = facts.split_whitespace().rev();
     Docket {
+        version: 1,
         states: vec![state(true), state(true), state(false), state(false)],
         rules: rules(),
         weights: vec![vec![2, 2, 0, 1]],
-        nodes: words.fold(vec![remainder_node(0, modulus)], |nodes, word| with_fact(word, nodes)),
+        nodes: words.fold(vec![last], |nodes, word| with_fact(word, nodes)),
         leaves: vec![Leaf { y1, y2 }],
     }
 }

@@ -1,10 +1,13 @@
 //! What the compared inputs were, so that the comparison can show that it reached every test.
 
+mod fixed;
 mod writes;
 
 use crate::calls::{Call, Said};
+use fixed::Fixed;
 use second::Refusal;
 use std::collections::{BTreeMap, BTreeSet};
+use std::fmt::Debug;
 use writes::Writes;
 
 /// Places by the number of their refusal.
@@ -31,6 +34,7 @@ pub struct Tally {
     pub outcome_steps: u64,
     /// Runs that made a meeting, of tables in which a pair has several rules.
     pub outcome_runs: u64,
+    pub fixed: Fixed,
     pub writes: Writes,
     /// What was said to the inputs on which the two implementations differ.
     pub differences: Vec<String>,
@@ -53,6 +57,7 @@ impl Tally {
         if matches!(number, 0 | 12 | 13) {
             self.count_nodes(docket, number, place as usize);
         }
+        self.fixed.count_docket(docket, number, place as usize);
     }
 
     /// Counts all nodes of an accepted docket, or the one that is refused.
@@ -105,24 +110,21 @@ impl Tally {
         for (number, places) in other.places {
             self.places.entry(number).or_default().extend(places);
         }
-        for (kind, more) in other.kinds {
-            *self.kinds.entry(kind).or_default() += more;
-        }
+        add(&mut self.kinds, other.kinds);
         for (number, moduli) in other.moduli {
             self.moduli.entry(number).or_default().extend(moduli);
         }
-        for (number, more) in other.outcomes {
-            *self.outcomes.entry(number).or_default() += more;
-        }
+        add(&mut self.outcomes, other.outcomes);
         self.outcome_steps += other.outcome_steps;
         self.outcome_runs += other.outcome_runs;
+        self.fixed.merge(other.fixed);
         self.writes.merge(other.writes);
         self.differences.extend(other.differences);
     }
 
     /// What the inputs failed to reach: several places with every refusal that has them, some last places, every kind of
     /// node and some moduli, half of the dockets past tests 1 to 8, a tenth of them accepted, tables in which a pair has
-    /// several rules, and what the writer can say.
+    /// several rules, version 2, and what the writer can say.
     pub fn not_reached(&self) -> Vec<String> {
         let mut missing = places_not_reached(&self.places, &LEAST_PLACES, &LAST_PLACES);
         if 2 * self.pass_shape < self.dockets {
@@ -133,6 +135,7 @@ impl Tally {
         }
         missing.extend(self.nodes_not_reached());
         missing.extend(self.outcomes_not_reached());
+        missing.extend(self.fixed.not_reached());
         missing.extend(self.writes.not_reached());
         missing
     }
@@ -152,12 +155,12 @@ impl Tally {
         missing
     }
 
-    /// What the inputs failed to reach of tables in which a pair has several rules: a quarter of the accepted dockets,
+    /// What the inputs failed to reach of tables in which a pair has several rules: a fifth of the accepted dockets,
     /// some refused by each test after 7, some steps and some runs.
     fn outcomes_not_reached(&self) -> Vec<String> {
         let dockets = |number: u32| self.outcomes.get(&number).copied().unwrap_or(0);
         let mut counts = vec![
-            ("accepted dockets".into(), dockets(0), self.accepted / 4),
+            ("accepted dockets".into(), dockets(0), self.accepted / 5),
             ("steps".into(), self.outcome_steps, LEAST_OUTCOMES),
             ("runs".into(), self.outcome_runs, LEAST_OUTCOMES),
         ];
@@ -166,6 +169,27 @@ impl Tally {
         let text = |(what, met, least)| format!("several rules for a pair: {met} {what} of at least {least}");
         counts.into_iter().map(text).collect()
     }
+}
+
+/// Adds numbers by their keys.
+fn add<K: Ord>(to: &mut BTreeMap<K, u64>, from: BTreeMap<K, u64>) {
+    for (key, more) in from {
+        *to.entry(key).or_default() += more;
+    }
+}
+
+/// Which of these keys were met fewer times than the least.
+fn few<K: Ord + Debug>(
+    what: &str,
+    met: &BTreeMap<K, u64>,
+    wanted: impl IntoIterator<Item = K>,
+    least: u64,
+) -> Vec<String> {
+    let times = |key: &K| met.get(key).copied().unwrap_or(0);
+    let unmet = wanted.into_iter().filter(|key| times(key) < least);
+    unmet
+        .map(|key| format!("{what} {key:?}: {} of at least {least}", times(&key)))
+        .collect()
 }
 
 /// The refusals that were met at fewer places than these, and those that were not met at these.

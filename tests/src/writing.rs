@@ -1,15 +1,16 @@
 //! The writer: what both implementations say and write is compared, on samples, cases of the corpus and any parts.
 
 use crate::calls::{self, Said};
-use crate::make;
+use crate::make::{self, fixed};
 use crate::native;
 use crate::parts::{slices, total, Parts};
 use crate::tally::hex;
 use second::Refusal;
 
 /// A name, the parts, the length of the output, and what is said. The parts are those of the broadcast, of the least or
-/// of the largest docket; those that follow, each with its number (0 states, 1 rules, 2 layers, 3 nodes, 4 leaves),
-/// stand in the place of its own. Their bytes are hexadecimal, `-` is none, `*` repeats and `+` joins.
+/// of the largest docket, or of one of version 2: the broadcast of fixed agents, the least or the largest one; those that
+/// follow, each with its number (0 states, 1 rules, 2 layers, 3 nodes, 4 leaves), stand in the place of its own. Their
+/// bytes are hexadecimal, `-` is none, `*` repeats and `+` joins. `v` is another version than that of the docket.
 const SAMPLES: &str = "\
 written to its length | broadcast | total | written
 one byte more | broadcast | total+1 | written
@@ -127,6 +128,71 @@ test 11 before test 30 | broadcast 4=1127*4 | 0 | refused 11 0
 test 11 before test 30, one byte too short | broadcast 4=1127*4 | total-1 | refused 11 0
 states and leaves exchanged | broadcast 0=- 4=0203 | total | refused 3 0
 rules and layers exchanged | broadcast 1=0100000000000000 2=0001010100 | total | refused 31 1
+version 2, written to its length | fixed | total | written
+version 2, much more | fixed | 100000 | written
+version 2, one byte too short | fixed | total-1 | refused 30 0
+version 2, no room | fixed | 0 | refused 30 0
+version 2, the least docket | least_2 | 42 | written
+version 2, the least docket, one byte too short | least_2 | 41 | refused 30 0
+version 2, the largest docket | largest_2 | 62936 | written
+version 2, the largest docket, one byte too short | largest_2 | 62935 | refused 30 0
+version 0 | broadcast v=0 | total | refused 2 0
+version 3 | broadcast v=3 | total | refused 2 0
+version 257 | broadcast v=257 | total | refused 2 0
+version 258 | fixed v=258 | total | refused 2 0
+version 65,535 | broadcast v=65535 | total | refused 2 0
+version 65,537 | broadcast v=65537 | total | refused 2 0
+version 65,538 | fixed v=65538 | total | refused 2 0
+the greatest version | broadcast v=4294967295 | total | refused 2 0
+version 2 but for bit 31 | fixed v=2147483650 | total | refused 2 0
+test 2 before test 31 | broadcast v=0 1=00 | total | refused 2 0
+test 2 before test 3 | broadcast v=3 0=- 1=- 2=- 3=- 4=- | 0 | refused 2 0
+test 2 before test 5 | broadcast v=3 0=0207 | total | refused 2 0
+test 2 before test 30 | fixed v=3 | 0 | refused 2 0
+version 2 for parts of version 1 | broadcast v=2 | total | refused 31 0
+version 1 for parts of version 2 | fixed v=1 | total | refused 31 2
+version 1, neither rule nor layer, 6 states of one byte | fixed v=1 0=020000030000 1=- 2=- | total | written
+version 2, neither rule nor layer, 2 states of three bytes | fixed 0=020000030000 1=- 2=- | total | written
+two states and one byte | fixed 0=020000+030700+00 | total | refused 31 0
+two states and two bytes | fixed 0=020000+030700+0000 | total | refused 31 0
+two states but one byte | fixed 0=020000+0307 | total | refused 31 0
+one byte of states | fixed 0=02 | total | refused 31 0
+two bytes of states | fixed 0=0203 | total | refused 31 0
+version 2, test 31 at all parts | fixed 0=02 1=00 2=00 3=00 4=00 | total | refused 31 0
+version 2, test 31 at parts 1 to 4 | fixed 1=00 2=00 3=00 4=00 | total | refused 31 1
+version 2, test 31 at parts 2 to 4 | fixed 2=00 3=00 4=00 | total | refused 31 2
+version 2, test 31 before test 3, no room | fixed 0=- 3=00 | 0 | refused 31 3
+version 2, no states, one byte of layers and of leaves | fixed 0=- 2=00 4=00 | total | refused 3 0
+version 2, part of a state, one byte of layers | fixed 0=02 2=00 | total | refused 31 0
+version 2, 1 state | fixed 0=020000 | total | refused 3 0
+version 2, 3 states, layers of 2 | fixed 0=020000*3 | total | refused 31 2
+version 2, 2 states, layers of 6 | fixed 2=00*24 | total | refused 8 1
+version 2, 64 states | fixed 0=02e803*64 2=00*256 4=00*256 | total | written
+version 2, 64 states, layers of 192 | fixed 0=02e803*64 2=00*768 | total | refused 8 1
+version 2, 65 states | fixed 0=020000*65 2=00*260 4=00*260 | total | refused 3 0
+version 2, 65 states, layers of 64 | fixed 0=020000*65 2=00*256 | total | refused 31 2
+version 2, 22 states in 66 bytes | fixed 0=02*66 2=00*88 | total | written
+version 2, 65,536 states | fixed 0=020000*65536 2=00*262144 | total | refused 3 0
+version 2, 65,538 states, a layer of 2 | fixed 0=020000*65538 | total | refused 31 2
+version 2, 65,538 states and one byte | fixed 0=020000*65538+02 | total | refused 31 0
+version 2, 21,846 states in 65,538 bytes | fixed 0=020000*21846 2=- 1=- | total | refused 3 0
+version 2, 257 rules | fixed 1=0001010100*257 | total | refused 3 1
+version 2, no node | fixed 3=- | total | refused 3 3
+fixed numbers at the limit | fixed 0=02e803+03e803 | total | written
+fixed number 1,001 in state 0 | fixed 0=02e903+030000 | total | refused 5 0
+fixed number 1,001 in state 1 | fixed 0=020000+03e903 | total | refused 5 1
+fixed number 1,024, its lowest byte 0 | fixed 0=020000+030004 | total | refused 5 1
+fixed number 65,535 | fixed 0=02ffff+030000 | total | refused 5 0
+fixed number 1,001 in state 0, a bit of state 1 | fixed 0=02e903+070000 | total | refused 5 0
+a bit of state 0, fixed number 1,001 in state 1 | fixed 0=060000+03e903 | total | refused 5 0
+no input, and fixed agents | fixed 0=000100+010100 | total | refused 5 2
+version 2, test 5 before test 6 | fixed 0=020000+03e903 1=0001000100 | total | refused 5 1
+version 2, test 6 before test 7 | fixed 1=0001010100*2+0001000100 | total | refused 6 2
+version 2, test 7 before test 8 | fixed 1=0001010100*2 2=ff*8 | total | refused 7 1
+version 2, test 8 before test 11 | fixed 2=ff*8 4=ff7f*4 | total | refused 8 0
+version 2, test 11 before test 30 | fixed 4=1127*4 | 0 | refused 11 0
+version 2, rules in any order | fixed 1=0001010100+0000010100 | total | written
+version 2, nodes of any bytes | fixed 3=ff*60 | total | written
 ";
 
 /// What the output holds before a call: bytes that change from place to place.
@@ -134,13 +200,13 @@ pub fn old_bytes(room: usize) -> Vec<u8> {
     (0..room).map(|at| (at * 89 + 170) as u8).collect()
 }
 
-/// Lends the parts, and an output that holds old bytes, to both implementations. Hands back what they say and leave
-/// there, or what is wrong with it.
-pub fn write_both(parts: [&[u8]; 5], old: &[u8]) -> Result<(Said, Vec<u8>), String> {
+/// Lends the parts, and an output that holds old bytes, to both implementations, and tells them a version. Hands back
+/// what they say and leave there, or what is wrong with it.
+pub fn write_both(version: u32, parts: [&[u8]; 5], old: &[u8]) -> Result<(Said, Vec<u8>), String> {
     let before = parts.map(<[u8]>::to_vec);
     let (mut output, mut other) = (old.to_vec(), old.to_vec());
-    let said = native::write(parts, &mut output);
-    let second = calls::write(parts, &mut other);
+    let said = native::write(version, parts, &mut output);
+    let second = calls::write(version, parts, &mut other);
     if said != second {
         return Err(format!("{said:?}, second implementation: {second:?}"));
     }
@@ -150,15 +216,15 @@ pub fn write_both(parts: [&[u8]; 5], old: &[u8]) -> Result<(Said, Vec<u8>), Stri
     if slices(&before) != parts {
         return Err("a part is changed".into());
     }
-    match written_problem(parts, old, &said, &output) {
+    match written_problem(version, parts, old, &said, &output) {
         Some(problem) => Err(problem),
         None => Ok((said, output)),
     }
 }
 
-/// What is wrong with an output that both implementations leave: a refusal writes nothing; else the sections of what is
-/// written are the parts, it passes tests 1 to 8 and 11, and what follows it stays.
-fn written_problem(parts: [&[u8]; 5], old: &[u8], said: &Said, output: &[u8]) -> Option<String> {
+/// What is wrong with an output that both implementations leave: a refusal writes nothing; else what is written has the
+/// version and the parts, it passes tests 1 to 8 and 11, and what follows it stays.
+fn written_problem(version: u32, parts: [&[u8]; 5], old: &[u8], said: &Said, output: &[u8]) -> Option<String> {
     let total = if said.code == 0 { total(&parts) } else { 0 };
     if output[total..] != old[total..] {
         return Some(format!("{said:?}, and bytes from {total} on are changed"));
@@ -167,8 +233,8 @@ fn written_problem(parts: [&[u8]; 5], old: &[u8], said: &Said, output: &[u8]) ->
         return None;
     }
     let docket = &output[..total];
-    if said.answers[0] != total as u64 || second::sections(docket) != Ok(parts) {
-        return Some(format!("{said:?}, and other parts are written"));
+    if said.answers[0] != total as u64 || second::sections(docket) != Ok((version, parts)) {
+        return Some(format!("{said:?}, and another version or other parts are written"));
     }
     let number = native::check(docket) / 65_536;
     let fails = matches!(number, 1..=8 | 11) || refusal_of(docket).is_some();
@@ -195,10 +261,10 @@ fn refusal_of(docket: &[u8]) -> Option<Refusal> {
 /// Writes a docket's own parts: its bytes again where it passes tests 1 to 8 and 11, else their refusal. Hands back
 /// whether it was written, or what is wrong. A docket that fails tests 1 to 4 has no parts.
 pub fn write_again(docket: &[u8]) -> Result<bool, String> {
-    let Ok(parts) = second::sections(docket) else {
+    let Ok((version, parts)) = second::sections(docket) else {
         return Ok(false);
     };
-    let (said, output) = write_both(parts, &old_bytes(docket.len() + 9))?;
+    let (said, output) = write_both(version, parts, &old_bytes(docket.len() + 9))?;
     let refusal = refusal_of(docket);
     if said.refusal() != refusal {
         return Err(format!("{:?}, and the docket: {refusal:?}", said.refusal()));
@@ -215,10 +281,10 @@ fn first_difference(one: &[u8], other: &[u8]) -> String {
     format!("{:?} and {:?} at {at}", one.get(at), other.get(at))
 }
 
-/// Parts and a length of the output, as the cases of the corpus have them.
-pub fn text(parts: [&[u8]; 5], room: usize) -> String {
+/// A version, parts and a length of the output, as the cases of the corpus have them.
+pub fn text(version: u32, parts: [&[u8]; 5], room: usize) -> String {
     let part = |bytes: &[u8]| if bytes.is_empty() { "-".into() } else { hex(bytes) };
-    format!("{} {room}", parts.map(part).join(" "))
+    format!("{version} {} {room}", parts.map(part).join(" "))
 }
 
 /// The names of the samples, and what is wrong with each.
@@ -234,7 +300,7 @@ pub fn samples() -> Vec<(&'static str, Option<String>)> {
 }
 
 fn sample_problem(parts: &str, room: &str, expected: &str) -> Option<String> {
-    let parts = sample_parts(parts);
+    let (version, parts) = sample_parts(parts);
     let parts = slices(&parts);
     let room = match room {
         "total-1" => total(&parts) - 1,
@@ -242,7 +308,7 @@ fn sample_problem(parts: &str, room: &str, expected: &str) -> Option<String> {
         "total+1" => total(&parts) + 1,
         number => number.parse().expect("a length"),
     };
-    let said = match write_both(parts, &old_bytes(room)) {
+    let said = match write_both(version, parts, &old_bytes(room)) {
         Ok((said, _)) => said.refusal().map_or("written".into(), refused),
         Err(problem) => problem,
     };
@@ -253,21 +319,28 @@ fn refused(refusal: Refusal) -> String {
     format!("refused {} {}", refusal.number, refusal.place)
 }
 
-fn sample_parts(text: &str) -> Parts {
+fn sample_parts(text: &str) -> (u32, Parts) {
     let mut words = text.split(' ');
     let docket = match words.next() {
         Some("broadcast") => make::broadcast(),
         Some("least") => make::still(2),
         Some("largest") => make::largest(),
+        Some("fixed") => fixed::broadcast(true, 7),
+        Some("least_2") => fixed::with_fixed(make::still(2), &[]),
+        Some("largest_2") => fixed::largest(),
         _ => panic!("not a docket: {text}"),
     };
     let bytes = docket.bytes();
-    let mut parts = second::sections(&bytes).expect("its sections").map(<[u8]>::to_vec);
+    let (mut version, sections) = second::sections(&bytes).expect("its sections");
+    let mut parts = sections.map(<[u8]>::to_vec);
     for word in words {
-        let (place, part) = word.split_once('=').expect("a part");
-        parts[place.parse::<usize>().expect("its number")] = part.split('+').flat_map(repeated).collect();
+        let (place, part) = word.split_once('=').expect("a part or a version");
+        match place {
+            "v" => version = part.parse().expect("a version"),
+            place => parts[place.parse::<usize>().expect("its number")] = part.split('+').flat_map(repeated).collect(),
+        }
     }
-    parts
+    (version, parts)
 }
 
 fn repeated(text: &str) -> Vec<u8> {
@@ -281,17 +354,18 @@ fn from_hex(text: &str) -> Vec<u8> {
     digits.chunks(2).map(byte).collect()
 }
 
-/// What is wrong with a case of the corpus: five parts and the length of an output filled with the byte aa, `->`, and
-/// the total with the whole output afterwards, or the refusal.
+/// What is wrong with a case of the corpus: a version, five parts and the length of an output filled with the byte aa,
+/// `->`, and the total with the whole output afterwards, or the refusal.
 pub fn case_problem(case: &str) -> Option<String> {
     let (input, expected) = case.split_once(" -> ").expect("what is said");
     let words: Vec<&str> = input.split(' ').collect();
-    let [states, rules, layers, nodes, leaves, room] = words[..] else {
-        panic!("not five parts and a length: {case}");
+    let [version, states, rules, layers, nodes, leaves, room] = words[..] else {
+        panic!("not a version, five parts and a length: {case}");
     };
+    let version = version.parse().expect("a version");
     let parts: Parts = [states, rules, layers, nodes, leaves].map(from_hex);
     let old = vec![0xaa; room.parse().expect("a length")];
-    let said = match write_both(slices(&parts), &old) {
+    let said = match write_both(version, slices(&parts), &old) {
         Ok((said, output)) => match said.refusal() {
             Some(refusal) => refused(refusal),
             None => format!("{} {}", said.answers[0], hex(&output)),

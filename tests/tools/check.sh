@@ -78,7 +78,7 @@ good.docket: $good
 
 try "$tool" empty.docket 65535.docket 65536.docket longer.docket
 holds 'empty and long files' printed 1 "empty.docket: $length
-65535.docket: refused 2 0: the version is not 1
+65535.docket: refused 2 0: the version is neither 1 nor 2
 65536.docket: $length
 longer.docket: $length
 4 files: 0 accepted, 4 refused, 0 trouble"
@@ -170,9 +170,10 @@ holds 'the examples' printed 0 'examples/broadcast.docket: accepted 2 1 1 5 1 1
 examples/majority.docket: accepted 4 4 2 21 3 4
 examples/maximum_10.docket: accepted 10 45 1 127 9 9
 examples/parity.docket: accepted 4 5 3 18 3 4
+examples/quorum.docket: accepted 6 3 1 23 2 3
 examples/threshold_1_0_8.docket: accepted 21 146 2 384 37 19
 examples/two_outcomes.docket: accepted 3 3 1 7 1 2
-6 files: 6 accepted, 0 refused, 0 trouble'
+7 files: 7 accepted, 0 refused, 0 trouble'
 
 files=(tests/corpus/*.docket)
 lines=$(for file in "${files[@]}"; do echo "$file: $(<"${file%.docket}.expect")"; done)
@@ -321,7 +322,7 @@ words() {
 1 file: 0 accepted, 1 refused, 0 trouble"
 }
 words 1 0 ': the file has fewer than 24 bytes, or another length than its header says'
-words 2 0 ': the version is not 1'
+words 2 0 ': the version is neither 1 nor 2'
 words 3 0 ': the number of states is not 2 to 64'
 words 3 1 ': the number of rules is over 256'
 words 3 2 ': the number of layers is over 16, or one of rules and layers is 0 and the other is not'
@@ -333,7 +334,7 @@ words 4 2 ': the layers do not begin where the rules end'
 words 4 3 ': the nodes do not begin where the layers end'
 words 4 4 ': the leaves do not begin where the nodes end'
 words 4 5 ': the file does not end where the leaves end'
-words 5 1 ': state 1 has a bit set that must be 0'
+words 5 1 ': state 1 has a bit set that must be 0, or over 1,000 fixed workers'
 words 5 2 ': no state is an input'
 words 6 0 ': rule 0 has a state or layer that does not exist, a pair out of order, or two equal pairs'
 words 7 200 ': rule 200 has the before pair and the after pair of an earlier rule'

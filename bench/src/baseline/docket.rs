@@ -8,15 +8,83 @@ pub type Rule = [u8; 5];
 
 const COUNTS: [RangeInclusive<usize>; 5] = [2..=64, 0..=256, 0..=16, 1..=2048, 0..=128];
 const WEIGHT_LIMIT: u32 = 1_000_000;
+const FIXED_LIMIT: u16 = 1000;
 
 /// The sections of a file that passed tests 1 to 8, read in place.
 pub struct Docket<'a> {
-    pub states: &'a [u8],
+    pub states: States<'a>,
     pub rules: &'a [Rule],
     pub layers: usize,
     pub weights: &'a [[u8; 4]],
     pub nodes: &'a [[u8; 12]],
     pub leaf_weights: &'a [[u8; 2]],
+}
+
+/// The records of the states in either version.
+#[derive(Clone, Copy)]
+pub enum States<'a> {
+    One(&'a [u8]),
+    Two(&'a [[u8; 3]]),
+}
+
+impl<'a> States<'a> {
+    fn of(version: u32, section: &'a [u8]) -> Self {
+        match version {
+            2 => States::Two(section.as_chunks().0),
+            _ => States::One(section),
+        }
+    }
+
+    pub fn len(&self) -> usize {
+        match self {
+            States::One(states) => states.len(),
+            States::Two(states) => states.len(),
+        }
+    }
+
+    /// The first bytes of the records.
+    fn bytes(&self) -> impl DoubleEndedIterator<Item = u8> + 'a {
+        let (one, two): (&[u8], &[[u8; 3]]) = match *self {
+            States::One(states) => (states, &[]),
+            States::Two(states) => (&[], states),
+        };
+        one.iter().copied().chain(two.iter().map(|record| record[0]))
+    }
+
+    /// The fixed agents of a state.
+    pub fn fixed(&self, state: usize) -> u16 {
+        match self {
+            States::One(_) => 0,
+            States::Two(states) => u16::from_le_bytes([states[state][1], states[state][2]]),
+        }
+    }
+
+    /// The states with that bit in their record.
+    pub fn with(&self, bit: u8) -> u64 {
+        set_of(self.bytes().rev().map(|byte| byte & bit != 0))
+    }
+
+    /// The states with fixed agents.
+    pub fn with_fixed(&self) -> u64 {
+        match self {
+            States::One(_) => 0,
+            States::Two(states) => set_of(states.iter().rev().map(|[_, low, high]| low | high != 0)),
+        }
+    }
+}
+
+/// A set of states, from the last one to the first.
+fn set_of(named: impl Iterator<Item = bool>) -> u64 {
+    named.fold(0, |set, named| set << 1 | u64::from(named))
+}
+
+/// The bytes of a state's record.
+pub fn state_length(version: u32) -> usize {
+    if version == 2 {
+        3
+    } else {
+        1
+    }
 }
 
 impl<'a> Docket<'a> {
@@ -27,9 +95,10 @@ impl<'a> Docket<'a> {
     }
 
     /// The bytes of the five sections, whose lengths fit the counts.
-    pub fn of([states, rules, weights, nodes, leaves]: [&'a [u8]; 5], layers: usize) -> Self {
+    pub fn of(version: u32, sections: [&'a [u8]; 5], layers: usize) -> Self {
+        let [states, rules, weights, nodes, leaves] = sections;
         Docket {
-            states,
+            states: States::of(version, states),
             rules: rules.as_chunks().0,
             layers,
             weights: weights.as_chunks().0,
@@ -54,12 +123,11 @@ impl<'a> Docket<'a> {
         if field(11) != file.len() {
             return refuse(1, 0);
         }
-        if field(0) != 1 {
-            return refuse(2, 0);
-        }
+        let version = field(0) as u32;
+        version_test(version)?;
         let [s, r, l, n, k] = [field(1), field(2), field(3), field(4), field(5)];
         count_test([s, r, l, n, k])?;
-        let lengths = [s, 5 * r, 4 * s * l, 12 * n, 4 * s * k];
+        let lengths = [state_length(version) * s, 5 * r, 4 * s * l, 12 * n, 4 * s * k];
         let mut end = 24;
         for place in 0..=5 {
             if field(place + 6) != end {
@@ -71,14 +139,17 @@ impl<'a> Docket<'a> {
         let (rules, body) = body.split_at(lengths[1]);
         let (weights, body) = body.split_at(lengths[2]);
         let (nodes, leaves) = body.split_at(lengths[3]);
-        Ok(Self::of([states, rules, weights, nodes, leaves], l))
+        Ok(Self::of(version, [states, rules, weights, nodes, leaves], l))
     }
 
     /// Test 5.
     fn state_test(&self) -> Result<(), Refusal> {
-        let bits = self.states.iter().fold(0, |bits, state| bits | state);
-        if bits > 3 {
-            return refuse(5, self.states.iter().take_while(|&&state| state <= 3).count());
+        let bits = self.states.bytes().fold(0, |bits, state| bits | state);
+        let over = |state: usize| self.states.fixed(state) > FIXED_LIMIT;
+        let any_over = matches!(self.states, States::Two(_)) && (0..self.states.len()).any(over);
+        if bits > 3 || any_over {
+            let bad = |(state, byte)| byte > 3 || over(state);
+            return refuse(5, self.states.bytes().enumerate().position(bad).unwrap_or(0));
         }
         if bits & 2 == 0 {
             return refuse(5, self.states.len());
@@ -140,13 +211,13 @@ impl<'a> Docket<'a> {
             _ => Ok(()),
         }
     }
+}
 
-    /// The states with that bit in their record.
-    pub fn states_with(&self, bit: u8) -> u64 {
-        self.states
-            .iter()
-            .rev()
-            .fold(0, |set, state| set << 1 | u64::from(state & bit != 0))
+/// Test 2.
+pub fn version_test(version: u32) -> Result<(), Refusal> {
+    match version {
+        1 | 2 => Ok(()),
+        _ => refuse(2, 0),
     }
 }
 

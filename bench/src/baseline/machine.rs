@@ -16,6 +16,23 @@ pub fn size_test(docket: &Docket, counts: &[u32]) -> Result<(), Refusal> {
     }
 }
 
+/// Test 22.
+pub fn start_test(docket: &Docket, counts: &[u32]) -> Result<(), Refusal> {
+    let inputs = docket.states.with(2);
+    for (place, &count) in counts.iter().enumerate() {
+        let fixed = u32::from(docket.states.fixed(place));
+        let fits = if inputs >> place & 1 == 1 {
+            count >= fixed
+        } else {
+            count == fixed
+        };
+        if !fits {
+            return refuse(22, place);
+        }
+    }
+    Ok(())
+}
+
 fn enabled(&[p, q, ..]: &Rule, counts: &[u32]) -> bool {
     counts[usize::from(p)] > u32::from(p == q) && counts[usize::from(q)] > 0
 }

@@ -46,13 +46,24 @@ pub fn check_code(docket: &[u8]) -> u64 {
     }
 }
 
+/// What `docket_start_test` returns.
+pub fn start_code(docket: &[u8], counts: &[u32]) -> u64 {
+    call_code(Docket::read(docket).and_then(|docket| {
+        machine::size_test(&docket, counts)?;
+        machine::start_test(&docket, counts)
+    }))
+}
+
 /// What `docket_step` returns.
 pub fn step_code(docket: &[u8], counts: &mut [u32], rule: u32) -> u64 {
-    let made = Docket::read(docket).and_then(|docket| {
+    call_code(Docket::read(docket).and_then(|docket| {
         machine::size_test(&docket, counts)?;
         machine::step(&docket, counts, rule)
-    });
-    made.map_or_else(
+    }))
+}
+
+fn call_code(said: Result<(), Refusal>) -> u64 {
+    said.map_or_else(
         |refusal| (u64::from(refusal.number) << 32) + u64::from(refusal.place),
         |()| 0,
     )

@@ -82,19 +82,25 @@ struct Tree<'a> {
     states: u64,
     /// The states of verdict 0, and those of verdict 1.
     verdicts: [u64; 2],
+    /// The states with fixed agents, and those of them that are no inputs.
+    fixed: u64,
+    only_fixed: u64,
 }
 
 /// Tests 12 and 13.
 pub fn check(docket: &Docket) -> Result<(), Refusal> {
     let states = u64::MAX >> (64 - docket.states.len());
-    let ones = docket.states_with(1);
+    let (ones, inputs, fixed) = (docket.states.with(1), docket.states.with(2), docket.states.with_fixed());
     let tree = Tree {
         docket,
         states,
         verdicts: [states & !ones, ones],
+        fixed,
+        only_fixed: fixed & !inputs,
     };
     let mut facts = Facts::default();
-    facts.absent[0] = states & !docket.states_with(2);
+    facts.absent[0] = states & !inputs & !fixed;
+    facts.present[0] = fixed;
     let end = tree.descend(0, &facts, 1)?;
     if end < docket.nodes.len() {
         return refuse(12, end);
@@ -218,10 +224,14 @@ impl Tree<'_> {
             let has = |set: u64| set >> state & 1 == 1;
             if !has(facts.absent[0]) {
                 let sum = leaf.y(1, state) + leaf.y(2, state);
-                if sum > 0 {
+                if sum > 0 && !has(self.only_fixed) {
                     return false;
                 }
-                upper += if has(facts.present[0]) { sum } else { 0 };
+                upper += match has(self.fixed) {
+                    true => i32::from(self.docket.states.fixed(state)) * sum,
+                    false if has(facts.present[0]) => sum,
+                    false => 0,
+                };
             }
             for end in 1..3 {
                 let weight = leaf.y(end, state);
@@ -249,8 +259,13 @@ impl Tree<'_> {
         let mut sum = 0;
         for state in 0..self.docket.states.len() {
             let has = |set: u64| set >> state & 1 == 1;
-            if !has(facts.absent[0]) && (leaf.y(1, state) + leaf.y(2, state)) % modulus != 0 {
-                return false;
+            if !has(facts.absent[0]) {
+                let both = leaf.y(1, state) + leaf.y(2, state);
+                if has(self.only_fixed) {
+                    sum -= i32::from(self.docket.states.fixed(state)) * both;
+                } else if both % modulus != 0 {
+                    return false;
+                }
             }
             for end in 1..3 {
                 let weight = leaf.y(end, state);

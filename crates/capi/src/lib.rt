@@ -39,10 +39,11 @@ pub extern "C" fn docket_figures(docket: &[u8], figures: &mut [u64; 6]) -> u64
     }
 }
 
-// Writes the docket of the five sections to the beginning of the output. Returns 0, and total is the docket's length; or the
-// refusal, its number times 4,294,967,296 plus its place, as with every call below, and total is as it was.
+// Writes the docket of the five sections, of this version, to the beginning of the output. Returns 0, and total is the docket's
+// length; or the refusal, its number times 4,294,967,296 plus its place, as with every call below, and total is as it was.
 #[no_mangle]
 pub extern "C" fn docket_write(
+    version: u32,
     states: &[u8],
     rules: &[u8],
     layers: &[u8],
@@ -54,17 +55,17 @@ pub extern "C" fn docket_write(
     ensures code { λ r.
         let x =
         sections (now (states .entry)) (now (rules .entry)) (now (layers .entry)) (now (nodes .entry)) (now (leaves .entry)) in
-        ⌜ r ≡ writeCode (writeOf x (length (now (out .entry)))) ⌝ }
+        ⌜ r ≡ writeCode (writeOf version x (length (now (out .entry)))) ⌝ }
     ensures output { λ _.
         let x =
         sections (now (states .entry)) (now (rules .entry)) (now (layers .entry)) (now (nodes .entry)) (now (leaves .entry)) in
-        ⌜ now (out .exit) ≡ outputOf x (now (out .entry)) ⌝ }
+        ⌜ now (out .exit) ≡ outputOf version x (now (out .entry)) ⌝ }
     ensures total { λ _.
         let x =
         sections (now (states .entry)) (now (rules .entry)) (now (layers .entry)) (now (nodes .entry)) (now (leaves .entry)) in
-        ⌜ now (total .exit) ≡ writeTotal (now (total .entry)) (writeOf x (length (now (out .entry)))) ⌝ }
+        ⌜ now (total .exit) ≡ writeTotal (now (total .entry)) (writeOf version x (length (now (out .entry)))) ⌝ }
 {
-    let a = writer::write(states, rules, layers, nodes, leaves, out);
+    let a = writer::write(version, states, rules, layers, nodes, leaves, out);
     match a {
         Written::Total(n) => {
             *total = n as u64;

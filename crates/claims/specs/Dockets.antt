@@ -1,4 +1,4 @@
--- The dockets of the samples of document 01 that are not in format's own samples.
+-- The dockets of samples that are not in format's own samples.
 use mathlib.Core.List.{List, [], _∷_, _++_}
 use Prim.Native.Nat.{ℕ, _/_, _%_}
 use lib.ListN.{take, drop, set}
@@ -25,6 +25,24 @@ exchanged =
 -- total 276.
 abbrev pub withoutAbsent : List ℕ
 withoutAbsent = set (set (set (set (set (take 176 majority ++ drop 200 majority) 8 15) 20 4) 21 1) 22 20) 23 1
+
+-- A docket of version 2, 146 bytes (cert_rnd_4_028 of tests/corpus): both states are inputs, and two agents are fixed in state 0.
+-- Its leaf has the weights -1 for end 2, and closes by the two.
+abbrev pub inputFixed : List ℕ
+inputFixed =
+    2 ∷ 0 ∷ 2 ∷ 0 ∷ 4 ∷ 0 ∷ 2 ∷ 0 ∷ 6 ∷ 0 ∷ 1 ∷ 0 ∷ 24 ∷ 0 ∷ 30 ∷ 0 ∷ 50 ∷ 0 ∷ 66 ∷ 0 ∷ 138 ∷ 0 ∷ 146 ∷ 0
+    ∷ 2 ∷ 2 ∷ 0 ∷ 3 ∷ 0 ∷ 0
+    ∷ 0 ∷ 1 ∷ 0 ∷ 0 ∷ 0 ∷ 1 ∷ 1 ∷ 0 ∷ 0 ∷ 0 ∷ 1 ∷ 1 ∷ 0 ∷ 1 ∷ 0 ∷ 0 ∷ 1 ∷ 1 ∷ 1 ∷ 1
+    ∷ 0 ∷ 0 ∷ 0 ∷ 0 ∷ 1 ∷ 0 ∷ 0 ∷ 0
+    ∷ 1 ∷ 0 ∷ 0 ∷ 0 ∷ 0 ∷ 0 ∷ 0 ∷ 0
+    ∷ 3 ∷ 2 ∷ 2 ∷ 0 ∷ 0 ∷ 0 ∷ 0 ∷ 0 ∷ 0 ∷ 0 ∷ 0 ∷ 0
+    ∷ 4 ∷ 2 ∷ 1 ∷ 0 ∷ 0 ∷ 0 ∷ 0 ∷ 0 ∷ 0 ∷ 0 ∷ 0 ∷ 0
+    ∷ 1 ∷ 2 ∷ 0 ∷ 0 ∷ 0 ∷ 0 ∷ 0 ∷ 0 ∷ 0 ∷ 0 ∷ 0 ∷ 0
+    ∷ 3 ∷ 2 ∷ 0 ∷ 0 ∷ 0 ∷ 0 ∷ 0 ∷ 0 ∷ 0 ∷ 0 ∷ 0 ∷ 0
+    ∷ 0 ∷ 0 ∷ 0 ∷ 0 ∷ 0 ∷ 0 ∷ 0 ∷ 0 ∷ 0 ∷ 0 ∷ 0 ∷ 0
+    ∷ 2 ∷ 2 ∷ 1 ∷ 0 ∷ 0 ∷ 0 ∷ 0 ∷ 0 ∷ 0 ∷ 0 ∷ 0 ∷ 0
+    ∷ 0 ∷ 0 ∷ 0 ∷ 0 ∷ 255 ∷ 255 ∷ 255 ∷ 255
+    ∷ []
 
 -- A weight of 32 bits, before the bytes that follow it.
 abbrev pub word : ℕ → List ℕ → List ℕ

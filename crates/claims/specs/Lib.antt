@@ -1,7 +1,9 @@
 -- What is proved: Claims.antt has one field for each subject, OfDocket.antt the statements about dockets, OfWriter.antt those
--- about the writer. The proofs stand in the folder beside each file, the samples of documents 01 and 02 in Samples.antt.
+-- about the writer, OfVersions.antt those about versions. The proofs stand in the folder beside each file, the samples of
+-- documents 01 and 02 in Samples.antt.
 pub mod OfDocket
 pub mod OfWriter
+pub mod OfVersions
 pub mod Claims
 pub mod Dockets
 pub mod Samples

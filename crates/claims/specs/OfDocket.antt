@@ -12,7 +12,7 @@ use lib.Dec.{ltb}
 use lib.IntN.{ℤ, pos, _-ℤ_}
 use lib.Signed.{_≤ℤ_}
 use Rattle.theory.specs.Judge.{Test, Passes, FirstFits}
-use Rattle.theory.specs.Protocol.{Protocol, count, enabled, terminal, Shows, Start, fires, after, meetings}
+use Rattle.theory.specs.Protocol.{Protocol, enabled, terminal, Shows, StartRule, Start, Unfixed, fires, after, meetings}
 use Rattle.theory.specs.Ladder.{Layers, handover, Broken, layered, Laddered}
 use Rattle.theory.specs.Facts.{Facts}
 use Rattle.theory.specs.Leaf.{leafCloses, signed, LeafRule}
@@ -57,12 +57,11 @@ module _ (b c : List ℕ) where
     pub not-within : (h : Header) → SoundShape b h → isSized (protocolIn b h) c ≡ true → isWithin c ≡ false → a ≡ refuse (refusal 21 0)
     pub own : (h : Header) → SoundShape b h → admitted (protocolIn b h) c ≡ true → Own (protocolIn b h)
 
-  -- State s is the lowest that is no input and holds a worker.
+  -- State s is the lowest that is against the start rule.
   pub record LowestUnfit (P : Protocol) (s : ℕ) : Type 0 where
     pub state : s < P .states
-    pub no-input : P .input s ≡ false
-    pub held : 0 < count c s
-    pub lowest-state : (t : ℕ) → t < s → P .input t ≡ false → count c t ≡ 0
+    pub against : StartRule P c s → ⊥
+    pub lowest-state : (t : ℕ) → t < s → StartRule P c t
 
   -- Step and run pass back a refusal as theirs.
   abbrev pub passBack : Refusal → Reply
@@ -120,7 +119,8 @@ module _ (b : List ℕ) (h : Header) where
   assumed = disagreement (protocolIn b h) (weightsOf (h .sizes) (sectionsOf b h .leaves))
 
   -- The bytes b, with header h, keep every rule of document 01, as the Jobs of document 02 that are landed have it: rules are
-  -- distinct in all four states (Job 1), and a tree may have nodes of kind 7 (Job 2).
+  -- distinct in all four states (Job 1), a tree may have nodes of kind 7 (Job 2), and a docket of version 2 may have fixed
+  -- workers (Job 4).
   pub record Rules : Type 0 where
     -- Tests 1 to 8.
     pub shape : SoundShape b h
@@ -205,7 +205,8 @@ module _ (b : List ℕ) (h : Header) (c : List ℕ) where
     pub rank-is : length c ≡ h .sizes .states → Rank P L w c
     -- From every group some layered list ends at a standstill.
     pub some-list : length c ≡ h .sizes .states → (rs : List ℕ) × (layered P L c rs ≡ true) × (terminal P (after P c rs) ≡ true)
-    -- From a start, all lists that end at a standstill have one verdict, and after calls the verdict call says it.
+    -- From a start, of either version, all lists that end at a standstill have one verdict, and after calls the verdict call
+    -- says it.
     pub one-output : OneOutput P c (after P c)
     pub calls-one-output : OneOutput P c (lastOn b c)
     pub calls-verdict : Start P c → admitted P c ≡ true
@@ -251,16 +252,18 @@ pub record OfDocket (b : List ℕ) : Type 0 where
   pub calls-on-sound : (h : Header) → SoundShape b h → (c : List ℕ) → CallsOn b h c
   pub calls-on-others : (n k : ℕ) → shapeOf b ≡ shape.Refused (refusal n k) → (c : List ℕ)
       → AllRefused c (replyOf b) (lastOn b c) (reportedOn b c) n k
-  -- The protocol of an accepted docket is well specified: in the class WS³ of the paper, and so in WS². Its Layered
-  -- Termination is by the docket's own layers.
+  -- The protocol of an accepted docket is well specified: in the class WS³ of the paper, with starts for its initial
+  -- configurations, and so in WS². Its Layered Termination is by the docket's own layers.
   pub ws³ : IsAccepted b → WS³ (protocolIn b (headerOf b))
   pub ws² : IsAccepted b → WS² (protocolIn b (headerOf b))
   pub layered-by : IsAccepted b → LayeredBy (protocolIn b (headerOf b)) (layersIn b (headerOf b))
-  -- On a docket that passes tests 1 to 8, can act, acting, standstill, verdict, trap and siphon are what document 01 and the
-  -- paper call so.
+  -- On a docket that passes tests 1 to 8, can act, acting, standstill, verdict, trap, siphon and, without fixed workers, start
+  -- are what document 01 and the paper call so.
   pub definitions : (h : Header) → SoundShape b h → (c : List ℕ) → length c ≡ h .sizes .states → AsPublished (protocolIn b h) c
   -- So are active, quiet, lowest, layered and spread.
   pub layer-words : (h : Header) → SoundShape b h → (c : List ℕ) → LayersAre (protocolIn b h) (layersIn b h) (weightIn b h) c
+  -- A docket of version 1 has no fixed workers, so its starts are the paper's initial configurations (start-is).
+  pub version-1 : (h : Header) → h .sizes .version ≡ 1 → Unfixed (protocolIn b h)
   -- A leaf weight within its limits is the signed number that stands in the file as 16 bits v, and just these are within them.
   pub weight-is : (v : ℕ) → v < 65536 → biased v ≤ 20000 → signed (biased v) ≡ number16 v
   pub weight-within : (v : ℕ) → v < 65536 → (biased v ≤ 20000) ↔ (((pos 0 -ℤ pos 10000) ≤ℤ number16 v) × (number16 v ≤ℤ pos 10000))

@@ -12,7 +12,7 @@ use Rattle.theory.specs.Machine.{run, ran}
 use Rattle.shape.specs.Shape.{refusal}
 use Rattle.theory.specs.Unfold.{walking, calling}
 use Rattle.format.specs.Format.{headerOf, Sections}
-use Rattle.format.specs.Samples.{broadcast, majority, twoOutcomes, parity}
+use Rattle.format.specs.Samples.{broadcast, majority, twoOutcomes, parity, seeded, quorum}
 use Rattle.shape.specs.Samples.{shaping}
 use Rattle.leaf.specs.Leaf.{badLeaf}
 use Rattle.checker.specs.Check.{sectionsCheck, checkOf}
@@ -23,21 +23,26 @@ use Rattle.writer.specs.Write.Laws.{bytes-are}
 use Rattle.writer.specs.Samples.{writing, parts}
 use Rattle.writer.specs.declared.Written.{Written}
 use Rattle.writer.specs.declared.Written.the-variants as written
-use Rattle.machine.specs.Calls.{verdictAnswer, verdictOf, replyOf, countsOf}
+use Rattle.machine.specs.Calls.{startAnswer, startOf, verdictAnswer, verdictOf, replyOf, countsOf}
+use Rattle.machine.specs.declared.Started.{Started}
+use Rattle.machine.specs.declared.Started.the-variants as started
 use Rattle.machine.specs.declared.Verdict.the-variants.{Agreed}
 use Rattle.claims.specs.OfDocket.{Rules, Demand3}
 use Rattle.claims.specs.OfWriter.{Readable, Wrote}
+use Rattle.claims.specs.OfVersions.{inVersion2}
 use Rattle.claims.specs.Claims.Proved.{claims}
 use Rattle.claims.specs.Dockets.OneLayer.{one-layer}
-use Rattle.claims.specs.Dockets.{cut, longer, exchanged, withoutAbsent, oneLayer}
+use Rattle.claims.specs.Dockets.{cut, longer, exchanged, withoutAbsent, oneLayer, inputFixed}
 
 -- A sample: what the check says of a docket; what a run with the greatest limit does from given counts; what the check says
--- whatever the weights; what the writer says of sections, and what it leaves in the output.
+-- whatever the weights; what the writer of a version says of sections, and what it leaves in the output; what the start test
+-- says.
 pub data Sample : Type 0 where
   says : List ℕ → Checked → Sample
   rests : List ℕ → List ℕ → ℕ → List ℕ → Bool → Sample
   refuses : (ℕ → ℕ → ℕ → ℕ → List ℕ) → ℕ → Sample
-  writes : Sections → List ℕ → Written → List ℕ → Sample
+  writes : ℕ → Sections → List ℕ → Written → List ℕ → Sample
+  starts : List ℕ → List ℕ → Started → Sample
 
 abbrev pub Holds : Sample → Type 0
 -- The check of b answers a.
@@ -50,8 +55,10 @@ Holds (rests b c n d v) =
 Holds (refuses b n) =
     (x y z t : ℕ) → x ≤ 1000000 → y ≤ 1000000 → z ≤ 1000000 → t ≤ 1000000
     → (k : ℕ) × (checkOf (b x y z t) ≡ Refused (refusal n k))
--- The writer, lent the sections x and the output out, answers a and leaves d.
-Holds (writes x out a d) = (writeOf x (length out) ≡ a) × (outputOf x out ≡ d)
+-- The writer, told the version v and lent the sections x and the output out, answers a and leaves d.
+Holds (writes v x out a d) = (writeOf v x (length out) ≡ a) × (outputOf v x out ≡ d)
+-- The start test on b of the counts c answers a.
+Holds (starts b c a) = startOf b c ≡ a
 
 abbrev pub AllHold : List Sample → Type 0
 AllHold [] = Unit {0}
@@ -77,8 +84,8 @@ samples =
 
 -- Samples of document 02. Job 1: a pair with two outcomes, and the same with rule 1 equal to rule 0. Job 2: parity; then with
 -- the moduli 3, 1, 1,001 (3 × 256 + 233) and 2 + 2^32 at node 12; and with argument 2 at node 7, where O is not known to hold
--- exactly one agent. Job 3: the sections of broadcast, written into 101 bytes and into 98; and with the last byte of a node cut, where 97
--- bytes are too few as well.
+-- exactly one agent. Job 3: the sections of broadcast, written into 101 bytes and into 98; and with the last byte of a node cut,
+-- where 97 bytes are too few as well.
 abbrev pub requested : List Sample
 requested =
     says twoOutcomes (Accepted (record { states = 3; rules = 3; layers = 1; nodes = 7; spreads = 1; widest = 2 }))  -- Job 1
@@ -89,14 +96,46 @@ requested =
     ∷ says (set (set parity 249 233) 250 3) (Refused (refusal 12 12))  -- Job 2
     ∷ says (set parity 253 1) (Refused (refusal 12 12))  -- Job 2
     ∷ says (set parity 187 2) (Refused (refusal 13 12))  -- Job 2
-    ∷ writes (parts broadcast) (replicate 101 170) (written.Total 99) (broadcast ++ 170 ∷ 170 ∷ [])  -- Job 3
-    ∷ writes (parts broadcast) (replicate 98 170) (written.Refused (refusal 30 0)) (replicate 98 170)  -- Job 3
-    ∷ writes (parts (take 98 broadcast)) (replicate 97 170) (written.Refused (refusal 31 3)) (replicate 97 170)  -- Job 3
+    ∷ writes 1 (parts broadcast) (replicate 101 170) (written.Total 99) (broadcast ++ 170 ∷ 170 ∷ [])  -- Job 3
+    ∷ writes 1 (parts broadcast) (replicate 98 170) (written.Refused (refusal 30 0)) (replicate 98 170)  -- Job 3
+    ∷ writes 1 (parts (take 98 broadcast)) (replicate 97 170) (written.Refused (refusal 31 3)) (replicate 97 170)  -- Job 3
+    ∷ []
+
+-- Samples of document 02, Job 4: parity with three agents fixed in O, and with two; a vote that needs one agent in K0, with two
+-- there, with none, and with K0 an input; two agents fixed in an input, and one; then 1,001 agents, and no inputs. Parity is
+-- written in version 2, and refused in version 3.
+abbrev pub withFixed : List Sample
+withFixed =
+    says seeded (Accepted (record { states = 4; rules = 5; layers = 3; nodes = 5; spreads = 3; widest = 0 }))
+    ∷ says (set seeded 25 2) (Refused (refusal 13 1))
+    ∷ says quorum (Accepted (record { states = 6; rules = 3; layers = 1; nodes = 23; spreads = 2; widest = 3 }))
+    ∷ says (set quorum 31 2) (Refused (refusal 13 11))
+    ∷ says (set quorum 31 0) (Refused (refusal 13 9))
+    ∷ says (set quorum 30 2) (Refused (refusal 13 11))
+    ∷ says inputFixed (Accepted (record { states = 2; rules = 4; layers = 2; nodes = 6; spreads = 2; widest = 0 }))
+    ∷ says (set inputFixed 25 1) (Refused (refusal 13 4))
+    ∷ says (set (set quorum 31 233) 32 3) (Refused (refusal 5 2))
+    ∷ says (set (set quorum 24 1) 27 0) (Refused (refusal 5 6))
+    ∷ writes 2 (parts seeded) (replicate 186 170) (written.Total 185) (seeded ++ 170 ∷ [])
+    ∷ writes 3 (parts seeded) (replicate 186 170) (written.Refused (refusal 2 0)) (replicate 186 170)
+    ∷ []
+
+-- And starts: the fixed agent is there, is not, there are two, there are no agents at all; and of an input with two fixed agents
+-- one, two and five.
+abbrev pub fixedStarts : List Sample
+fixedStarts =
+    starts quorum (2 ∷ 1 ∷ 1 ∷ 0 ∷ 0 ∷ 0 ∷ []) started.Start
+    ∷ starts quorum (2 ∷ 1 ∷ 0 ∷ 0 ∷ 0 ∷ 0 ∷ []) (started.Refused (refusal 22 2))
+    ∷ starts quorum (2 ∷ 1 ∷ 2 ∷ 1 ∷ 0 ∷ 0 ∷ []) (started.Refused (refusal 22 2))
+    ∷ starts quorum (0 ∷ 0 ∷ 0 ∷ 0 ∷ 0 ∷ 0 ∷ []) (started.Refused (refusal 21 0))
+    ∷ starts (set seeded 28 2) (3 ∷ 1 ∷ 0 ∷ 0 ∷ []) (started.Refused (refusal 22 1))
+    ∷ starts (set seeded 28 2) (3 ∷ 2 ∷ 0 ∷ 0 ∷ []) started.Start
+    ∷ starts (set seeded 28 2) (3 ∷ 5 ∷ 0 ∷ 0 ∷ []) started.Start
     ∷ []
 
 -- The names that samples unfold.
 unfoldable sampling : ℕ
-unfolding writing shaping walking calling badLeaf sectionsCheck checkOf replyOf countsOf verdictOf verdictAnswer
+unfolding writing shaping walking calling badLeaf sectionsCheck checkOf replyOf countsOf verdictOf verdictAnswer startOf startAnswer
 sampling = 0
 
 pub samples-hold : AllHold samples
@@ -107,6 +146,14 @@ pub requested-hold : AllHold requested
 unfolding sampling
 requested-hold = (refl, (refl, (refl, (refl, (refl, (refl, (refl, (refl, ((refl, refl), ((refl, refl), ((refl, refl), tt)))))))))))
 
+pub fixed-hold : AllHold withFixed
+unfolding sampling
+fixed-hold = (refl, (refl, (refl, (refl, (refl, (refl, (refl, (refl, (refl, (refl, ((refl, refl), ((refl, refl), tt))))))))))))
+
+pub starts-hold : AllHold fixedStarts
+unfolding sampling
+starts-hold = (refl, (refl, (refl, (refl, (refl, (refl, (refl, tt)))))))
+
 -- So demand 3 holds of a docket in which a pair has two outcomes: what it says of rest and verdict is not empty there.
 pub outcomes-settle : (c : List ℕ) → Demand3 twoOutcomes (headerOf twoOutcomes) c
 outcomes-settle = claims .of-docket twoOutcomes .demand-3 (_, requested-hold .0)
@@ -115,18 +162,31 @@ outcomes-settle = claims .of-docket twoOutcomes .demand-3 (_, requested-hold .0)
 pub parity-settles : (c : List ℕ) → Demand3 parity (headerOf parity) c
 parity-settles = claims .of-docket parity .demand-3 (_, requested-hold .1 .1 .0)
 
+-- And of a docket of version 2 that is accepted for its fixed agents.
+pub seeded-settles : (c : List ℕ) → Demand3 seeded (headerOf seeded) c
+seeded-settles = claims .of-docket seeded .demand-3 (_, fixed-hold .0)
+
 -- What the writer wrote in the sample reads as the sections of broadcast.
-pub broadcast-reads : Wrote (parts broadcast) (replicate 101 170) 99
-broadcast-reads = claims .of-writer .writes (parts broadcast) (replicate 101 170) 99 (requested-hold .1 .1 .1 .1 .1 .1 .1 .1 .0 .0)
+pub broadcast-reads : Wrote 1 (parts broadcast) (replicate 101 170) 99
+broadcast-reads = claims .of-writer .writes 1 (parts broadcast) (replicate 101 170) 99 (requested-hold .1 .1 .1 .1 .1 .1 .1 .1 .0 .0)
 
 broadcast-below : allBelow (length broadcast) (λ k. ltb (getD broadcast k 0) 256) ≡ true
 unfolding sampling
 broadcast-below = refl
 
--- Broadcast is accepted, so its sections are written as its bytes into every output that has room for them.
-pub broadcast-again : (out : List ℕ) → 99 ≤ length out → outputOf (parts broadcast) out ≡ broadcast ++ drop 99 out
-broadcast-again out fits =
+-- Broadcast is accepted, so its sections are written as its bytes into every output that has room for them, and it is accepted
+-- in version 2 too.
+broadcast-keeps : Rules broadcast (headerOf broadcast)
+broadcast-keeps =
     let rules = claims .of-docket broadcast .demand-2 .exact .0 (_, samples-hold .0) .1 in
-    let keeps = subst (Rules broadcast) (rules .shape .header) rules in
-    let readable : Readable broadcast (headerOf broadcast) = record { shape = keeps .shape; leaf-weights = keeps .leaf-weights } in
+    subst (Rules broadcast) (rules .shape .header) rules
+
+pub broadcast-again : (out : List ℕ) → 99 ≤ length out → outputOf 1 (parts broadcast) out ≡ broadcast ++ drop 99 out
+unfolding shaping
+broadcast-again out fits =
+    let readable : Readable broadcast (headerOf broadcast) = record { shape = broadcast-keeps .shape; leaf-weights = broadcast-keeps .leaf-weights } in
     claims .of-writer .writes-again broadcast (bytes-are broadcast broadcast-below) (headerOf broadcast) readable out fits .1
+
+pub broadcast-in-2 : checkOf (inVersion2 broadcast (headerOf broadcast)) ≡ checkOf broadcast
+unfolding shaping
+broadcast-in-2 = claims .of-versions .alike broadcast (headerOf broadcast) (broadcast-keeps .shape) refl .check

@@ -1,12 +1,13 @@
-// The counts of a configuration, one 32-bit number a state, lent as a slice: tests 20 and 21, occupied states, rules that
-// are enabled, fire, or are chosen. The states section is lent where a contract speaks of the docket's protocol; it is
-// not read.
+// The counts of a configuration, one 32-bit number a state, lent as a slice: tests 20 and 21, occupied and unfit states,
+// rules that are enabled, fire, or are chosen. Where a contract speaks of the docket's protocol the states section is lent;
+// only for unfit states it is read.
 ghost use mathlib.Core.Path.{_≡_};
+ghost use mathlib.Core.List.{[]};
 ghost use Prim.Native.Nat.{_≤_};
 ghost use lib.ListN.{getD};
 ghost use Rattle.theory.specs.Bool.{member};
 ghost use Rattle.theory.specs.Below.{sumBelow};
-ghost use Rattle.theory.specs.Protocol.{size, lose as loseOf, gain as gainOf, enabled as enabledOf, fire as fireOf};
+ghost use Rattle.theory.specs.Protocol.{size, lose as loseOf, gain as gainOf, enabled as enabledOf, fire as fireOf, unfit};
 ghost use Rattle.theory.specs.Machine.{chosen};
 ghost use Rattle.bits.specs.Code.{amongOf};
 ghost use Rattle.format.specs.Format.{protocolOf, layersOf};
@@ -149,6 +150,31 @@ pub fn choose(states: &[u8], rules: &[u8], z: Sizes, counts: &[u32]) -> u16
         r += 1;
     }
     best
+}
+
+// Whether the count of state s is against the start rule.
+fn is_unfit(states: &[u8], z: Sizes, counts: &[u32], s: u16) -> bool
+    ensures { λ t. ⌜ t ≡ unfit (protocolOf z (now (states .entry)) []) (now (counts .entry)) s ⌝ }
+{
+    let held = count(counts, s as usize);
+    let fixed = format::fixed_agents(states, z, s) as u32;
+    if format::is_input(states, z, s) {
+        return held < fixed;
+    }
+    held != fixed
+}
+
+// The states whose counts are against the start rule, as a word.
+pub fn unfit_states(states: &[u8], z: Sizes, counts: &[u32]) -> u64
+    ensures { λ w. ⌜ member w ≡ amongOf (z .states) (unfit (protocolOf z (now (states .entry)) []) (now (counts .entry))) ⌝ }
+{
+    let mut set: u64 = 0;
+    let mut i: u16 = 0;
+    while i < z.states {
+        set = bits::with_if(set, is_unfit(states, z, counts, i), i as usize);
+        i += 1;
+    }
+    set
 }
 
 // Whether state s holds an agent.

@@ -17,12 +17,12 @@ factsOf f =
       unused = inWords 4 (f .unused);
     }
 
--- The fresh facts of n states, A being the inputs: words hold the states below 64.
-unfoldable pub freshOf : ℕ → (ℕ → Bool) → theory.Facts
-freshOf n A =
+-- The fresh facts of n states, A being the inputs and B the states with fixed agents: words hold the states below 64.
+unfoldable pub freshOf : ℕ → (ℕ → Bool) → (ℕ → Bool) → theory.Facts
+freshOf n A B =
     record {
-      absent = λ k s. eqb k 0 && (fullOf n s && not (A s));
-      present = λ _ _. false;
+      absent = λ k s. eqb k 0 && ((fullOf n s && not (A s)) && not (B s));
+      present = λ k s. eqb k 0 && B s;
       atMostOne = λ _ _. false;
       unused = λ _ _. false;
     }

@@ -32,18 +32,21 @@ impl Facts {
 
     pub const LEAVES: u16 = 128;
 
+    // The greatest number of fixed agents of a state.
+    pub const FIXED: u16 = 1000;
+
     // How many words the rules of a run take.
     pub const WORDS: usize = 4;
 
-    // Every one of the n states that is no input is absent at the start.
-    pub fn fresh(inputs: u64, n: u16) -> Facts
-        ensures { λ r. ⌜ factsOf r ≡ freshOf n (member inputs) ⌝ }
+    // Of n states those with fixed agents are present at the start, and the others that are no inputs are absent.
+    pub fn fresh(inputs: u64, fixed: u64, n: u16) -> Facts
+        ensures { λ r. ⌜ factsOf r ≡ freshOf n (member inputs) (member fixed) ⌝ }
     {
         let states = bits::full(n as usize);
         let others = bits::without(states, inputs);
         Facts {
-            absent: [others, 0, 0],
-            present: [0; 3],
+            absent: [bits::without(others, fixed), 0, 0],
+            present: [fixed, 0, 0],
             at_most_one: [0; 3],
             unused: [0; 12],
         }

@@ -1,6 +1,7 @@
--- The docket file (document 01, "The file"): its header, its five sections, and the protocol, the layers and weights of the
--- ladder, the tree and the leaf weights that they stand for. Everywhere b are a docket's bytes, h its header, z its sizes.
-use mathlib.Core.Bool.{Bool}
+-- The docket file (document 01, "The file"; version 2: document 02, Job 4): its header, its five sections, and the protocol,
+-- the layers and weights of the ladder, the tree and the leaf weights that they stand for. Everywhere b are a docket's bytes,
+-- h its header, z its sizes.
+use mathlib.Core.Bool.{Bool, cond}
 use mathlib.Core.List.{List}
 use Prim.Native.Nat.{ℕ, _+_, _-_, _*_, _/_, _%_}
 use lib.Dec.{eqb}
@@ -33,10 +34,14 @@ pub record Sections : Type 0 where
 abbrev pub sections : List ℕ → List ℕ → List ℕ → List ℕ → List ℕ → Sections
 sections a b c d e = record { states = a; rules = b; layers = c; nodes = d; leaves = e }
 
+-- How many bytes a state record has: one, and three in version 2.
+abbrev pub stateWidth : ℕ → ℕ
+stateWidth version = cond (eqb version 2) 3 1
+
 -- How many bytes each section has.
 module _ (z : Sizes) where
   abbrev pub statesLength : ℕ
-  statesLength = z .states
+  statesLength = stateWidth (z .version) * z .states
 
   abbrev pub rulesLength : ℕ
   rulesLength = 5 * z .rules
@@ -63,16 +68,20 @@ sectionsOf b h =
 
 -- ---- One record of each section
 
--- State s: bit 0 is the output (document 01: the verdict), bit 1 is set for an input state.
+-- State s: of its first byte bit 0 is the output (document 01: the verdict), and bit 1 is set for an input state.
 module _ (z : Sizes) (xs : List ℕ) (s : ℕ) where
   abbrev pub flags : ℕ
-  flags = getD xs s 0
+  flags = getD xs (stateWidth (z .version) * s) 0
 
   abbrev pub isOutput : Bool
   isOutput = eqb (flags % 2) 1
 
   abbrev pub isInput : Bool
   isInput = eqb (flags / 2 % 2) 1
+
+  -- Its fixed agents: in version 2 the number in the two bytes behind the first; in version 1 there are none.
+  abbrev pub fixedOf : ℕ
+  fixedOf = cond (eqb (z .version) 2) (le16 xs (3 * s + 1)) 0
 
 -- Rule r: the before pair p, q, the after pair p′, q′, the layer.
 module _ (xs : List ℕ) (r : ℕ) where
@@ -139,6 +148,7 @@ protocolOf z states rules =
       q′ = ruleQ′ rules;
       output = isOutput z states;
       input = isInput z states;
+      fixed = fixedOf z states;
     }
 
 -- The layers of the rules.

@@ -6,7 +6,7 @@ ghost use lib.ListN.{getD};
 ghost use Rattle.theory.specs.Bool.{member};
 ghost use Rattle.bits.specs.Code.{amongOf};
 ghost use Rattle.format.specs.Bytes.{le16, le32, le64, section as sectionOf};
-ghost use Rattle.format.specs.Format.{headerOf, statesLength, rulesLength, layersLength, nodesLength, leavesLength, flags};
+ghost use Rattle.format.specs.Format.{headerOf, stateWidth, statesLength, rulesLength, layersLength, nodesLength, leavesLength, flags, fixedOf, isInput};
 ghost use Rattle.format.specs.Format.{ruleP, ruleQ, ruleOf, ruleP′, ruleQ′, ruleLayer, layerWeight};
 ghost use Rattle.format.specs.Format.{nodeKind, nodeParty, nodeArgument, nodeSet, leafBits, biased};
 ghost use Rattle.format.specs.Code.{Value, hasFlag};
@@ -45,10 +45,11 @@ pub struct Rule {
     pub layer: usize,
 }
 
-// A bit of a state's byte.
+// What a state may have: output 1, the mark of an input, fixed agents.
 pub enum Flag {
     Output,
     Input,
+    Fixed,
 }
 
 fn wide(x: u8) -> usize
@@ -181,11 +182,28 @@ pub fn read_header(b: &[u8]) -> Header
     Header { sizes, at }
 }
 
+// How many bytes a state record has.
+fn state_width(version: u16) -> usize
+    ensures { λ r. ⌜ Value 4 (stateWidth version) r ⌝ }
+{
+    if version == 2 {
+        return 3;
+    }
+    1
+}
+
+// How many bytes the states have.
+pub fn states_length(z: Sizes) -> usize
+    ensures { λ r. ⌜ Value 262144 (statesLength z) r ⌝ }
+{
+    state_width(z.version) * (z.states as usize)
+}
+
 // The bytes of each section.
 pub fn states_section(b: &[u8], h: Header) -> &[u8]
     ensures { λ r. ⌜ now r ≡ sectionOf (now (b .entry)) (h .at .states) (statesLength (h .sizes)) ⌝ }
 {
-    section(b, h.at.states as usize, h.sizes.states as usize)
+    section(b, h.at.states as usize, states_length(h.sizes))
 }
 
 pub fn rules_section(b: &[u8], h: Header) -> &[u8]
@@ -220,21 +238,36 @@ pub fn leaves_section(b: &[u8], h: Header) -> &[u8]
     )
 }
 
-// State s: its byte.
+// State s: the byte of its bits, its fixed agents, whether it is an input.
 pub fn state_flags(states: &[u8], z: Sizes, s: u16) -> usize
     ensures { λ x. ⌜ Value 256 (flags z (now (states .entry)) s) x ⌝ }
 {
-    byte(states, s as usize)
+    byte(states, state_width(z.version) * (s as usize))
+}
+
+pub fn fixed_agents(states: &[u8], z: Sizes, s: u16) -> u16
+    ensures { λ x. ⌜ x ≡ fixedOf z (now (states .entry)) s ⌝ }
+{
+    if z.version == 2 {
+        return read16(states, 3 * (s as usize) + 1);
+    }
+    0
+}
+
+pub fn is_input(states: &[u8], z: Sizes, s: u16) -> bool
+    ensures { λ t. ⌜ t ≡ isInput z (now (states .entry)) s ⌝ }
+{
+    state_flags(states, z, s) / 2 % 2 == 1
 }
 
 // Whether state s has the flag.
 fn has_flag(states: &[u8], z: Sizes, f: Flag, s: u16) -> bool
     ensures { λ t. ⌜ t ≡ hasFlag z (now (states .entry)) f s ⌝ }
 {
-    let bits = state_flags(states, z, s);
     match f {
-        Flag::Output => bits % 2 == 1,
-        Flag::Input => bits / 2 % 2 == 1,
+        Flag::Output => state_flags(states, z, s) % 2 == 1,
+        Flag::Input => is_input(states, z, s),
+        Flag::Fixed => 0 < fixed_agents(states, z, s),
     }
 }
 

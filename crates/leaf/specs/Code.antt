@@ -1,16 +1,17 @@
 -- The leaf rule and the remainder rule over the bytes of a docket, in the parts in which the code goes through them.
 use mathlib.Core.Path.{_≡_}
 use mathlib.Core.Bool.{Bool, not, cond, _||_}
-use mathlib.Core.List.{List}
+use mathlib.Core.List.{List, []}
 use Prim.Native.Nat.{ℕ, _+_, _-_, _%_, _<_}
 use lib.Dec.{ltb, eqb}
 use Rattle.theory.specs.Bool.{member}
 use Rattle.theory.specs.Below.{allBelow, firstBelow}
-use Rattle.format.specs.Format.{ruleP, ruleQ, ruleP′, ruleQ′, ruleOf, endWeight}
+use Rattle.format.specs.Format.{ruleP, ruleQ, ruleP′, ruleQ′, ruleOf, endWeight, protocolOf}
 use Rattle.format.specs.declared.Rule.{Rule}
 use Rattle.format.specs.declared.Sizes.{Sizes}
-use Rattle.share.specs.Code.{relatesBy, shareBy}
+use Rattle.share.specs.Code.{relatesBy, fixedIn, shareBy}
 use Rattle.share.specs.declared.Closing.{Closing}
+use Rattle.share.specs.declared.Fixed.{Fixed}
 use Rattle.share.specs.declared.Known.{Known}
 use Rattle.share.specs.declared.Share.{Share}
 use Rattle.leaf.specs.declared.Change.{Change}
@@ -70,6 +71,10 @@ keepsIn by u z rules leaves l e r = member u (r % 64) || keeps by z rules leaves
 unfoldable pub allFrom : ℕ → ℕ → (ℕ → Bool) → Bool
 allFrom r n f = allBelow (n - r) (λ k. f (r + k))
 
+-- The fixed agents of state s. No rules are looked at.
+abbrev pub fixedAt : Sizes → List ℕ → ℕ → Fixed
+fixedAt z states = fixedIn (protocolOf z states [])
+
 -- The share of state s in leaf l, by what is known at the start, at end 1 and at end 2.
-unfoldable pub shareOf : Closing → Sizes → List ℕ → ℕ → Known → Known → Known → ℕ → Share
-shareOf by z leaves l a b c s = shareBy by a b c s (endWeight z leaves l 0 s) (endWeight z leaves l 1 s)
+unfoldable pub shareOf : Closing → Sizes → List ℕ → List ℕ → ℕ → Known → Known → Known → ℕ → Share
+shareOf by z states leaves l a b c s = shareBy by (fixedAt z states s) a b c s (endWeight z leaves l 0 s) (endWeight z leaves l 1 s)

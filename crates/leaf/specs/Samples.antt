@@ -28,7 +28,7 @@ leaf = 1 ∷ 0 ∷ 255 ∷ 255 ∷ 0 ∷ 0 ∷ 0 ∷ 0 ∷ 255 ∷ 255 ∷ 1 ∷
 
 -- End 1 has A present, end 2 has A absent.
 abbrev pub without-b : Facts
-without-b = withAbsent (withPresent (freshOf 4 (λ s. ltb s 2)) 1 (eqb 0)) 2 (eqb 0)
+without-b = withAbsent (withPresent (freshOf 4 (λ s. ltb s 2) (λ _. false)) 1 (eqb 0)) 2 (eqb 0)
 
 abbrev closes : Facts → List ℕ → Bool
 closes F leaves = leafCloses (protocolOf sizes (2 ∷ 3 ∷ 0 ∷ 1 ∷ []) rules) F (weightsOf sizes leaves 0)
@@ -83,7 +83,7 @@ abbrev all : ℕ → Bool
 all s = ltb s 4
 
 abbrev single : Facts
-single = withAtMostOne (withAtMostOne (withPresent (freshOf 4 all) 0 all) 1 all) 2 all
+single = withAtMostOne (withAtMostOne (withPresent (freshOf 4 all (λ _. false)) 0 all) 1 all) 2 all
 
 samples-lowest : closes single lowest ∷ closes (withAbsent single 2 (eqb 3)) lowest ∷ [] ≡ false ∷ true ∷ []
 unfolding closing reading freshOf

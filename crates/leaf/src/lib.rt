@@ -1,5 +1,6 @@
 // The leaves of a docket: test 11, and whether a leaf closes, by the leaf rule or by the remainder rule. A weight is read with
-// 10,000 added, so all numbers are unsigned. Every public function is total. A function is lent the states section where its contract speaks of the protocol.
+// 10,000 added, so all numbers are unsigned. Every public function is total. rules_keep is lent the states section because its
+// contract speaks of the protocol.
 ghost use mathlib.Core.Path.{_≡_};
 ghost use Prim.Native.Nat.{_+_, _<_};
 ghost use Rattle.theory.specs.Below.{firstBelow};
@@ -8,11 +9,12 @@ ghost use Rattle.format.specs.Format.{protocolOf, endWeight, weightsOf};
 ghost use Rattle.facts.specs.Code.{factsOf};
 ghost use Rattle.share.specs.Code.{closesBy, keptBy, KnownAt, ShareIs};
 ghost use Rattle.leaf.specs.Leaf.{overLimit, badLeaf};
-ghost use Rattle.leaf.specs.Code.{RuleAt, changeAt, nextChange, keepsIn, allFrom, shareOf};
+ghost use Rattle.leaf.specs.Code.{RuleAt, changeAt, nextChange, keepsIn, allFrom, fixedAt, shareOf};
 use facts::Facts;
 use format::Rule;
 use format::Sizes;
 use share::Closing;
+use share::Fixed;
 use share::Known;
 use share::Share;
 
@@ -193,18 +195,37 @@ fn known_at(facts: Facts, party: usize) -> Known
     }
 }
 
+// The fixed agents of state s.
+fn fixed_at(states: &[u8], z: Sizes, s: u16) -> Fixed
+    ensures { λ x. ⌜ x ≡ fixedAt z (now (states .entry)) s ⌝ }
+{
+    let agents = format::fixed_agents(states, z, s);
+    if 0 < agents {
+        let input = format::is_input(states, z, s);
+        return Fixed {
+            agents,
+            only: !input,
+        };
+    }
+    Fixed {
+        agents: 0,
+        only: false,
+    }
+}
+
 // The share of state s. It is nothing where both weights are 0.
 fn share_at(
     by: Closing,
     start: Known,
     first: Known,
     second: Known,
+    states: &[u8],
     leaves: &[u8],
     z: Sizes,
     l: u16,
     s: u16,
 ) -> Share
-    ensures { λ x. ⌜ ShareIs 68719476736 (shareOf by z (now (leaves .entry)) l start first second s) x ⌝ }
+    ensures { λ x. ⌜ ShareIs 68719476736 (shareOf by z (now (states .entry)) (now (leaves .entry)) l start first second s) x ⌝ }
 {
     let y1 = format::leaf_weight(leaves, z.states, l, 0, s);
     let y2 = format::leaf_weight(leaves, z.states, l, 1, s);
@@ -215,7 +236,17 @@ fn share_at(
             losses: 0,
         };
     }
-    share::share_by(by, start, first, second, s as usize, y1, y2)
+    let fixed = fixed_at(states, z, s);
+    share::share_by(
+        by,
+        fixed,
+        start,
+        first,
+        second,
+        s as usize,
+        y1 as u16,
+        y2 as u16,
+    )
 }
 
 // Whether leaf l closes on the facts: by sums, the leaf rule; by remainders, the remainder rule.
@@ -244,7 +275,7 @@ pub fn leaf_closes(
     let mut losses: u64 = 0;
     let mut s: u16 = 0;
     while s < z.states {
-        let one = share_at(by, start, first, second, leaves, z, l, s);
+        let one = share_at(by, start, first, second, states, leaves, z, l, s);
         if !one.allowed {
             return false;
         }

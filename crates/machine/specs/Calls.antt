@@ -24,7 +24,7 @@ verdictAs theory.mixed = shown.Mixed
 -- ---- Calls that change nothing, on counts c of a docket whose protocol is P
 
 module _ (P : Protocol) (c : List ℕ) where
-  -- The start test: 22 at the first state that is no input and holds an agent.
+  -- The start test: 22 at the first state whose count is against the start rule.
   unfoldable pub startAnswer : Started
   startAnswer =
       admit P c (λ n. started.Refused (refusal n 0))

@@ -59,16 +59,15 @@ pub fn start_in(docket: &[u8], h: Header, counts: &[u32]) -> Started
     if refused {
         return Started::Refused(Refusal { number, place: 0 });
     }
-    let occupied = counts::occupied(counts, h.sizes.states);
-    let inputs = format::flag_set(format::states_section(docket, h), h.sizes, Flag::Input);
-    let place = bits::lowest(bits::without(occupied, inputs));
+    let states = format::states_section(docket, h);
+    let place = bits::lowest(counts::unfit_states(states, h.sizes, counts));
     if place < 64 {
         return Started::Refused(Refusal { number: 22, place });
     }
     Started::Start
 }
 
-// The start test: two workers to a million, in input states only.
+// The start test: two workers to a million, and every state keeps the start rule.
 pub fn start_test(docket: &[u8], counts: &[u32]) -> Started
     ensures { λ a. ⌜ a ≡ startOf (now (docket .entry)) (now (counts .entry)) ⌝ }
 {

@@ -12,10 +12,10 @@ use Rattle.format.specs.Format.{isInput, ruleP, ruleQ, ruleP′, ruleQ′, rule
 use Rattle.format.specs.declared.Sizes.{Sizes}
 use Rattle.format.specs.declared.Header.{Header}
 use Rattle.format.specs.declared.Rule.{Rule}
-use Rattle.shape.specs.Shape.{refusal, otherBits, badRule, sameBefore, sameAfter, inLayer, tooLarge, sectionTests}
+use Rattle.shape.specs.Shape.{refusal, badRecord, badRule, sameBefore, sameAfter, inLayer, tooLarge, sectionTests}
 use Rattle.shape.specs.declared.Property.{Property}
 use Rattle.shape.specs.declared.Property.the-variants as property
-use Rattle.shape.specs.declared.Property.the-variants.{Flags, Input, Layer, Weight}
+use Rattle.shape.specs.declared.Property.the-variants.{State, Input, Layer, Weight}
 use Rattle.shape.specs.declared.Refusal.{Refusal}
 use Rattle.shape.specs.declared.Tested.{Tested}
 use Rattle.shape.specs.declared.Tested.the-variants.{Passed, Failed}
@@ -36,7 +36,7 @@ again rules whole r = anyBelow r (alike rules whole (ruleOf rules r))
 
 -- What holds answers, of the section that the property is about.
 abbrev pub holdsOf : List ℕ → Sizes → Property → ℕ → Bool
-holdsOf x z Flags s = otherBits z x s
+holdsOf x z State s = badRecord z x s
 holdsOf x z Input s = isInput z x s
 holdsOf x z property.Rule r = badRule z x r
 holdsOf x z (Layer l) r = inLayer x l r

@@ -3,7 +3,7 @@ use mathlib.Core.Path.{_≡_, refl}
 use mathlib.Core.List.{List, [], _∷_, _++_}
 use Prim.Native.Nat.{ℕ}
 use lib.ListN.{take, set}
-use Rattle.format.specs.Samples.{reading, broadcast, majority, twoOutcomes}
+use Rattle.format.specs.Samples.{reading, broadcast, majority, twoOutcomes, seeded, quorum}
 use Rattle.theory.specs.Below.{firstBelow}
 use Rattle.shape.specs.Shape.{nth, countFaults, badState, repeats, badLayer, headerShape, shapeOf}
 use Rattle.shape.specs.declared.Shape.{Shape}
@@ -30,8 +30,8 @@ samples =
     ∷ (take 98 broadcast, (1, 0))
     ∷ (take 23 broadcast, (1, 0))
     ∷ ([], (1, 0))
-    ∷ (set broadcast 0 2, (2, 0))
-    ∷ (set (set broadcast 0 2) 2 1, (2, 0))
+    ∷ (set broadcast 0 3, (2, 0))
+    ∷ (set (set broadcast 0 0) 2 1, (2, 0))
     ∷ (set broadcast 2 1, (3, 0))
     ∷ (set broadcast 2 65, (3, 0))
     ∷ (set broadcast 5 2, (3, 1))
@@ -73,6 +73,23 @@ samples =
     ∷ (otherRule 0 3 0 2, (7, 3))
     ∷ (otherRule 0 3 0 1, (0, 0))
     ∷ (otherRule 0 3 1 2, (0, 0))
+    -- Version 2: its states have three bytes, and fixed agents. 1,000 are 3 × 256 + 232.
+    ∷ (seeded, (0, 0))
+    ∷ (quorum, (0, 0))
+    ∷ (set seeded 1 1, (2, 0))
+    ∷ (set seeded 0 1, (4, 1))
+    ∷ (set broadcast 0 2, (4, 1))
+    ∷ (set seeded 24 4, (5, 0))
+    ∷ (set seeded 33 4, (5, 3))
+    ∷ (set (set seeded 25 232) 26 3, (0, 0))
+    ∷ (set (set seeded 25 233) 26 3, (5, 0))
+    ∷ (set (set seeded 28 233) 29 3, (5, 1))
+    ∷ (set (set seeded 34 255) 35 255, (5, 3))
+    ∷ (set (set (set seeded 27 4) 25 233) 26 3, (5, 0))
+    ∷ (set (set (set seeded 24 5) 28 233) 29 3, (5, 0))
+    ∷ (set seeded 27 0, (5, 4))
+    ∷ (set (set (set seeded 27 0) 34 233) 35 3, (5, 3))
+    ∷ (set seeded 36 4, (6, 0))
     ∷ []
 
 abbrev answers : List (List ℕ × (ℕ × ℕ)) → List (ℕ × ℕ)

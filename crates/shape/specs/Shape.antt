@@ -1,4 +1,5 @@
--- Tests 1 to 8 of document 01. Each can be laid beside its line of the table in "What a call says".
+-- Tests 1 to 8 of document 01, for either version (document 02, Job 4). Each can be laid beside its line of the table in "What
+-- a call says".
 use mathlib.Core.Bool.{Bool, false, not, _||_, _&&_}
 use mathlib.Core.List.{List, [], _∷_}
 use Prim.Native.Nat.{ℕ, _+_}
@@ -7,7 +8,7 @@ use lib.ListN.{length, getD}
 use Rattle.theory.specs.Below.{anyBelow}
 use Rattle.theory.specs.Judge.{Test, only, judge}
 use Rattle.format.specs.Format.{headerOf, statesLength, rulesLength, layersLength, nodesLength, leavesLength, Sections, sectionsOf}
-use Rattle.format.specs.Format.{flags, isInput, ruleLayer, ruleOf, layerWeight}
+use Rattle.format.specs.Format.{flags, isInput, fixedOf, ruleLayer, ruleOf, layerWeight}
 use Rattle.format.specs.declared.Sizes.{Sizes}
 use Rattle.format.specs.declared.Header.{Header}
 use Rattle.format.specs.declared.Rule.{Rule}
@@ -26,6 +27,13 @@ refusal n k = record { number = n; place = k }
 -- The k-th of a list of tests.
 abbrev pub nth : List Bool → ℕ → Bool
 nth ts k = getD ts k false
+
+-- Test 2: the version v is neither 1 nor 2.
+abbrev pub wrongVersion : ℕ → Bool
+wrongVersion v = not (eqb v 1 || eqb v 2)
+
+abbrev pub versionTest : ℕ → Test
+versionTest v = only 2 (wrongVersion v)
 
 -- n is outside least to greatest.
 abbrev pub outside : ℕ → ℕ → ℕ → Bool
@@ -63,6 +71,10 @@ offsetFaults h =
 abbrev pub otherBits : Sizes → List ℕ → ℕ → Bool
 otherBits z states s = ltb 3 (flags z states s)
 
+-- State s has more than 1,000 fixed agents.
+abbrev pub tooManyFixed : Sizes → List ℕ → ℕ → Bool
+tooManyFixed z states s = ltb 1000 (fixedOf z states s)
+
 -- Rules x and y have the same before pair.
 abbrev pub sameBefore : Rule → Rule → Bool
 sameBefore x y = eqb (x .p) (y .p) && eqb (x .q) (y .q)
@@ -85,9 +97,13 @@ tooLarge n layers l s = ltb 1000000 (layerWeight n layers l s)
 
 -- ---- Tests of the records
 
--- Test 5: at a state, other bits are set; at place S, there is no input state at all.
+-- State s has other bits set, or too many fixed agents.
+abbrev pub badRecord : Sizes → List ℕ → ℕ → Bool
+badRecord z states s = otherBits z states s || tooManyFixed z states s
+
+-- Test 5: at a state, its record is bad; at place S, there is no input state at all.
 unfoldable pub badState : Sizes → List ℕ → ℕ → Bool
-badState z states s = ltb s (z .states) && otherBits z states s || eqb s (z .states) && not (anyBelow (z .states) (isInput z states))
+badState z states s = ltb s (z .states) && badRecord z states s || eqb s (z .states) && not (anyBelow (z .states) (isInput z states))
 
 -- Test 6: a state ≥ S, a pair out of order, pairs equal, or a layer ≥ L.
 abbrev pub badFields : Sizes → Rule → Bool
@@ -127,7 +143,7 @@ sectionTests z x =
 abbrev pub shapeTests : List ℕ → Header → List Test
 shapeTests b h =
     only 1 (ltb (length b) 24 || not (eqb (length b) (h .at .total)))
-    ∷ only 2 (not (eqb (h .sizes .version) 1))
+    ∷ versionTest (h .sizes .version)
     ∷ countTest (h .sizes)
     ∷ record { number = 4; places = 6; bad = nth (offsetFaults h) }
     ∷ sectionTests (h .sizes) (sectionsOf b h)

@@ -2,15 +2,20 @@
 -- and that nothing else does.
 use mathlib.Core.Path.{_≡_}
 use mathlib.Core.List.{List}
+use mathlib.Core.Logic.{_⊎_}
 use Prim.Native.Nat.{ℕ, _+_, _≤_, _<_}
 use lib.ListN.{length}
 use Rattle.theory.specs.Protocol.{WellFormed}
 use Rattle.theory.specs.Ladder.{OrderedPartition}
 use Rattle.format.specs.Format.{headerOf, statesLength, rulesLength, layersLength, nodesLength, leavesLength, Sections, sectionsOf}
-use Rattle.format.specs.Format.{flags, ruleP, ruleQ, ruleP′, ruleQ′, layerWeight, protocolOf, layersOf}
+use Rattle.format.specs.Format.{flags, fixedOf, ruleP, ruleQ, ruleP′, ruleQ′, layerWeight, protocolOf, layersOf}
 use Rattle.format.specs.declared.Sizes.{Sizes}
 use Rattle.format.specs.declared.Header.{Header}
 pub mod Laws
+
+-- v is 1 or 2 (test 2).
+abbrev pub IsVersion : ℕ → Type 0
+IsVersion v = (v ≡ 1) ⊎ (v ≡ 2)
 
 -- The counts are within their limits (test 3).
 pub record Limits (z : Sizes) : Type 0 where
@@ -37,6 +42,7 @@ pub record Laid (b : List ℕ) (h : Header) : Type 0 where
 -- The records are as tests 5 to 8 want them.
 pub record SoundSections (z : Sizes) (x : Sections) : Type 0 where
   pub state-bits : (s : ℕ) → s < z .states → flags z (x .states) s ≤ 3
+  pub fixed-most : (s : ℕ) → s < z .states → fixedOf z (x .states) s ≤ 1000
   pub formed : WellFormed (protocolOf z (x .states) (x .rules))
   pub partition : OrderedPartition (protocolOf z (x .states) (x .rules)) (layersOf z (x .rules))
   pub rules-distinct : (e r : ℕ) → e < r → r < z .rules → ruleP (x .rules) e ≡ ruleP (x .rules) r → ruleQ (x .rules) e ≡ ruleQ (x .rules) r
@@ -46,7 +52,7 @@ pub record SoundSections (z : Sizes) (x : Sections) : Type 0 where
 -- The bytes b, with header h, pass tests 1 to 8.
 pub record SoundShape (b : List ℕ) (h : Header) : Type 0 where
   pub header : h ≡ headerOf b
-  pub version : h .sizes .version ≡ 1
+  pub version : IsVersion (h .sizes .version)
   pub limits : Limits (h .sizes)
   pub laid : Laid b h
   pub sections : SoundSections (h .sizes) (sectionsOf b h)

@@ -1,5 +1,5 @@
 // Tests 1 to 8 of a docket, which every call makes first. Any bytes may be given.
-// The limits of the counts are constants of the type Facts, as document 01's forms ask.
+// The limits are constants of the type Facts, as document 01's forms ask of depth and counts.
 ghost use mathlib.Core.Path.{_≡_};
 ghost use mathlib.Core.Bool.{not, _||_, _&&_};
 ghost use mathlib.Core.List.{[], _∷_};
@@ -9,7 +9,7 @@ ghost use lib.ListN.{length};
 ghost use Rattle.theory.specs.Bool.{member};
 ghost use Rattle.theory.specs.Below.{anyBelow, firstBelow};
 ghost use Rattle.format.specs.Code.{Value};
-ghost use Rattle.shape.specs.Shape.{countFaults, offsetFaults, nth, badState, badRule, repeats, inLayer, badLayer, headerShape, shapeOf};
+ghost use Rattle.shape.specs.Shape.{wrongVersion, countFaults, offsetFaults, nth, badState, badRule, repeats, inLayer, badLayer, headerShape, shapeOf};
 ghost use Rattle.shape.specs.Code.{alike, again, holdsOf, markOf, usedBelow, testedOf, asShape, refusalOf};
 use facts::Facts;
 use format::Header;
@@ -36,8 +36,8 @@ pub enum Tested {
 
 // A property of one record of a section.
 pub enum Property {
-    // A state with other bits set.
-    Flags,
+    // A state with other bits set, or with too many fixed agents.
+    State,
     // An input state.
     Input,
     // A rule that test 6 refuses.
@@ -73,6 +73,13 @@ pub fn first_true(a: bool, b: bool, c: bool, d: bool, e: bool, f: bool) -> u32
     6
 }
 
+// Test 2: the version is neither 1 nor 2.
+pub fn version_fault(v: u32) -> bool
+    ensures { λ t. ⌜ t ≡ wrongVersion v ⌝ }
+{
+    !((v == 1) | (v == 2))
+}
+
 // Test 3: the first count outside its limits, or 5.
 pub fn count_fault(z: Sizes) -> u32
     ensures { λ r. ⌜ r ≡ firstBelow 5 (nth (countFaults z)) ⌝ }
@@ -106,7 +113,7 @@ fn offset_fault(h: Header) -> u32
 {
     let at = h.at;
     let z = h.sizes;
-    let rules = misplaced(at.rules, at.states, z.states as usize);
+    let rules = misplaced(at.rules, at.states, format::states_length(z));
     let layers = misplaced(at.layers, at.rules, format::product(5, z.rules));
     let nodes = misplaced(at.nodes, at.layers, 4 * format::product(z.layers, z.states));
     let leaves = misplaced(at.leaves, at.nodes, format::product(12, z.nodes));
@@ -136,8 +143,10 @@ fn holds(x: &[u8], z: Sizes, t: Property, i: u16) -> bool
     ensures { λ r. ⌜ r ≡ holdsOf (now (x .entry)) z t i ⌝ }
 {
     match t {
-        Property::Flags => 3 < format::state_flags(x, z, i),
-        Property::Input => format::state_flags(x, z, i) / 2 % 2 == 1,
+        Property::State => {
+            (3 < format::state_flags(x, z, i)) | (Facts::FIXED < format::fixed_agents(x, z, i))
+        }
+        Property::Input => format::is_input(x, z, i),
         Property::Rule => rule_bad(x, z, i),
         Property::Layer(l) => format::rule_layer(x, i) == (l as usize),
         Property::Weight(l) => 1000000 < format::layer_weight(x, z.states, l, i),
@@ -158,12 +167,12 @@ fn first(x: &[u8], z: Sizes, t: Property, n: u16) -> u16
     i
 }
 
-// Test 5: the first state with other bits set, S where there is no input, or one more.
+// Test 5: the first state with other bits set or with too many fixed agents, S where there is no input, or one more.
 fn state_fault(states: &[u8], z: Sizes) -> u32
     ensures { λ i. ⌜ i ≡ firstBelow (z .states + 1) (badState z (now (states .entry))) ⌝ }
 {
     let n = z.states;
-    let s = first(states, z, Property::Flags, n);
+    let s = first(states, z, Property::State, n);
     if s < n {
         return s as u32;
     }
@@ -349,8 +358,7 @@ fn header_shape(b: &[u8], h: Header) -> Shape
             place: 0,
         });
     }
-    let unknown = h.sizes.version != 1;
-    if unknown {
+    if version_fault(h.sizes.version as u32) {
         return Shape::Refused(Refusal {
             number: 2,
             place: 0,

@@ -1,15 +1,16 @@
 -- The rule by which a leaf closes, by sums or by remainders, in the parts in which the code goes through it.
 use mathlib.Core.Path.{_≡_}
-use mathlib.Core.Bool.{Bool, not, _&&_, _||_}
+use mathlib.Core.Bool.{Bool, not, cond, _&&_, _||_}
 use Prim.Native.Nat.{ℕ, _+_, _-_, _*_, _≤_}
-use lib.Dec.{leb}
+use lib.Dec.{leb, ltb}
 use Rattle.theory.specs.Bool.{member, bit}
-use Rattle.theory.specs.Protocol.{Protocol}
+use Rattle.theory.specs.Protocol.{Protocol, onlyFixed}
 use Rattle.theory.specs.Facts.{Facts}
 use Rattle.theory.specs.Leaf.{nonIncreasing, leafCloses}
 use Rattle.theory.specs.Remainder.{congruent, conserved, remainderCloses}
 use Rattle.share.specs.declared.Closing.{Closing}
 use Rattle.share.specs.declared.Closing.the-variants.{BySums, ByRemainders}
+use Rattle.share.specs.declared.Fixed.{Fixed}
 use Rattle.share.specs.declared.Known.{Known}
 use Rattle.share.specs.declared.Share.{Share}
 pub mod Laws
@@ -35,10 +36,25 @@ pub record KnownAt (F : Facts) (k : ℕ) (w : Known) : Type 0 where
   pub present : member (w .present) ≡ (λ s. not (F .absent k s) && F .present k s)
   pub atMostOne : member (w .«at_most_one») ≡ F .atMostOne k
 
--- The share of state s at the start, by sums, y being the sum of its weights, plus 20,000.
-unfoldable pub startShare : Known → ℕ → ℕ → Share
-startShare k s y =
-    record { allowed = member (k .absent) s || leb y 20000; gains = bit (member (k .present) s) * (20000 - y); losses = 0 }
+-- The fixed agents of state s.
+abbrev pub fixedIn : Protocol → ℕ → Fixed
+fixedIn P s = record { agents = P .fixed s; only = onlyFixed P s }
+
+-- The share of a state that joins a sum n times, y being the sum of its weights, plus 20,000.
+abbrev pub joinedOf : Bool → ℕ → ℕ → Share
+joinedOf t n y = record { allowed = t; gains = n * (20000 - y); losses = n * (y - 20000) }
+
+-- How many times state s joins the upper sum.
+unfoldable pub timesOf : Known → Fixed → ℕ → ℕ
+timesOf k f s = cond (ltb 0 (f .agents)) (bit (not (member (k .absent) s)) * f .agents) (bit (member (k .present) s))
+
+-- How many agents state s is known to hold at the start: its fixed ones, where it is no input and not absent; else none.
+unfoldable pub knownOf : Known → Fixed → ℕ → ℕ
+knownOf k f s = bit (not (member (k .absent) s) && f .only) * f .agents
+
+-- The share of state s at the start, by sums.
+unfoldable pub startShare : Known → Fixed → ℕ → ℕ → Share
+startShare k f s y = joinedOf (member (k .absent) s || (f .only || leb y 20000)) (timesOf k f s) y
 
 -- The share of state s at an end, by sums, y being its weight there, plus 10,000.
 unfoldable pub endShare : Known → ℕ → ℕ → Share
@@ -50,8 +66,8 @@ endShare k s y =
     }
 
 -- The same by remainders.
-unfoldable pub startRemainder : ℕ → Known → ℕ → ℕ → Share
-startRemainder m k s y = record { allowed = member (k .absent) s || congruent m y 20000; gains = 0; losses = 0 }
+unfoldable pub startRemainder : ℕ → Known → Fixed → ℕ → ℕ → Share
+startRemainder m k f s y = joinedOf (member (k .absent) s || (f .only || congruent m y 20000)) (knownOf k f s) y
 
 unfoldable pub endRemainder : ℕ → Known → ℕ → ℕ → Share
 endRemainder m k s y =
@@ -62,19 +78,20 @@ endRemainder m k s y =
       losses = bit one * (10000 - y);
     }
 
--- The shares at the start and at the two ends together. At the start there are no losses.
+-- The shares at the start and at the two ends together.
 abbrev pub sumOf : Share → Share → Share → Share
 sumOf a b c =
     record {
       allowed = a .allowed && b .allowed && c .allowed;
       gains = b .gains + c .gains + a .gains;
-      losses = b .losses + c .losses;
+      losses = b .losses + c .losses + a .losses;
     }
 
--- The share of state s, by what is known at the start, at end 1 and at end 2; v and w are its weights at the ends, plus 10,000.
-unfoldable pub shareBy : Closing → Known → Known → Known → ℕ → ℕ → ℕ → Share
-shareBy BySums a b c s v w = sumOf (startShare a s (v + w)) (endShare b s v) (endShare c s w)
-shareBy (ByRemainders m) a b c s v w = sumOf (startRemainder m a s (v + w)) (endRemainder m b s v) (endRemainder m c s w)
+-- The share of state s, by its fixed agents and by what is known at the start, at end 1 and at end 2; v and w are its weights
+-- at the ends, plus 10,000.
+unfoldable pub shareBy : Closing → Fixed → Known → Known → Known → ℕ → ℕ → ℕ → Share
+shareBy BySums f a b c s v w = sumOf (startShare a f s (v + w)) (endShare b s v) (endShare c s w)
+shareBy (ByRemainders m) f a b c s v w = sumOf (startRemainder m a f s (v + w)) (endRemainder m b s v) (endRemainder m c s w)
 
 -- The numbers of a share are so small that three of them can be added.
 pub record Few (x : Share) : Type 0 where

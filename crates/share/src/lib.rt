@@ -1,11 +1,12 @@
 // The share of one state in the rule by which a leaf closes: the leaf rule goes by sums, the remainder rule by remainders. A
 // weight is read with 10,000 added, so all numbers are unsigned. Every public function is total.
 ghost use mathlib.Core.Path.{_≡_};
-ghost use Prim.Native.Nat.{_+_, _-_, _*_};
+ghost use Prim.Native.Nat.{_+_, _-_, _*_, _<_};
 ghost use Rattle.theory.specs.Bool.{bit};
 ghost use Rattle.theory.specs.Remainder.{congruent};
 ghost use Rattle.format.specs.Code.{Value};
-ghost use Rattle.share.specs.Code.{relatesBy, startShare, endShare, startRemainder, endRemainder, sumOf, shareBy, Few, ShareIs};
+ghost use Rattle.share.specs.Code.{relatesBy, joinedOf, timesOf, knownOf, startShare, endShare, startRemainder, endRemainder};
+ghost use Rattle.share.specs.Code.{sumOf, shareBy, Few, ShareIs};
 
 // How a leaf closes: by sums, or by remainders on division by a modulus.
 pub enum Closing {
@@ -20,13 +21,19 @@ pub struct Known {
     pub at_most_one: u64,
 }
 
+// The fixed agents of one state, and whether every start has only these there: it has some, and is no input.
+pub struct Fixed {
+    pub agents: u16,
+    pub only: bool,
+}
+
 // The share of one state.
 pub struct Share {
     // Whether the facts allow its weights.
     pub allowed: bool,
-    // What its weights add to the sum.
+    // What its weights add to the sum: by sums, the lower less the upper sum.
     pub gains: u64,
-    // What they take off the sum.
+    // What they take off it. At the start that is so of weights above 0.
     pub losses: u64,
 }
 
@@ -77,22 +84,63 @@ fn excess(counts: bool, a: u64, b: u64) -> u64
     a - b
 }
 
-// The share of state i at the start, by sums: y is the sum of its two weights, plus 20,000.
-fn start_share(known: Known, i: usize, y: u64) -> Share
-    ensures { λ x. ⌜ ShareIs (20000 + y) (startShare known i y) x ⌝ }
+// The share of a state that joins the sum n times: y is the sum of its two weights, plus 20,000.
+fn joined(allowed: bool, n: u16, y: u64) -> Share
+    requires { ⌜ y < 131072 ⌝ }
+    ensures { λ x. ⌜ ShareIs 8589934592 (joinedOf allowed n y) x ⌝ }
 {
     if 20000 < y {
         return Share {
-            allowed: bits::has(known.absent, i),
+            allowed,
             gains: 0,
-            losses: 0,
+            losses: (n as u64) * (y - 20000),
         };
     }
     Share {
-        allowed: true,
-        gains: excess(bits::has(known.present, i), 20000, y),
+        allowed,
+        gains: (n as u64) * (20000 - y),
         losses: 0,
     }
+}
+
+// How many times state i joins the upper sum.
+fn times(known: Known, fixed: Fixed, i: usize) -> u16
+    ensures { λ n. ⌜ n ≡ timesOf known fixed i ⌝ }
+{
+    if 0 < fixed.agents {
+        if bits::has(known.absent, i) {
+            return 0;
+        }
+        return fixed.agents;
+    }
+    if bits::has(known.present, i) {
+        return 1;
+    }
+    0
+}
+
+// How many agents state i is known to hold at the start: its fixed ones, where it is no input and not absent; else none.
+fn known_agents(known: Known, fixed: Fixed, i: usize) -> u16
+    ensures { λ n. ⌜ n ≡ knownOf known fixed i ⌝ }
+{
+    let exactly = !bits::has(known.absent, i) & fixed.only;
+    if !exactly {
+        return 0;
+    }
+    fixed.agents
+}
+
+// The share of state i at the start, by sums.
+fn start_share(known: Known, fixed: Fixed, i: usize, y: u64) -> Share
+    requires { ⌜ y < 131072 ⌝ }
+    ensures { λ x. ⌜ ShareIs 8589934592 (startShare known fixed i y) x ⌝ }
+{
+    let n = times(known, fixed, i);
+    joined(
+        bits::has(known.absent, i) | (fixed.only | (y <= 20000)),
+        n,
+        y,
+    )
 }
 
 // The share of state i at an end, by sums: y is its weight there, plus 10,000.
@@ -121,15 +169,13 @@ fn end_share(known: Known, i: usize, y: u64) -> Share
 }
 
 // The share of state i at the start, by remainders.
-fn start_remainder(m: u64, known: Known, i: usize, y: u64) -> Share
-    ensures { λ x. ⌜ ShareIs (20000 + y) (startRemainder m known i y) x ⌝ }
+fn start_remainder(m: u64, known: Known, fixed: Fixed, i: usize, y: u64) -> Share
+    requires { ⌜ y < 131072 ⌝ }
+    ensures { λ x. ⌜ ShareIs 8589934592 (startRemainder m known fixed i y) x ⌝ }
 {
     let vanishes = same_modulo(m, y, 20000);
-    Share {
-        allowed: bits::has(known.absent, i) | vanishes,
-        gains: 0,
-        losses: 0,
-    }
+    let n = known_agents(known, fixed, i);
+    joined(bits::has(known.absent, i) | (fixed.only | vanishes), n, y)
 }
 
 // The share of state i at an end, by remainders. It counts where the state is known to hold exactly one agent.
@@ -145,7 +191,7 @@ fn end_remainder(m: u64, known: Known, i: usize, y: u64) -> Share
     }
 }
 
-// The shares at the start and at the two ends together. At the start there are no losses.
+// The shares at the start and at the two ends together.
 fn together(a: Share, b: Share, c: Share) -> Share
     requires { ⌜ Few a × Few b × Few c ⌝ }
     ensures { λ x. ⌜ ShareIs 68719476736 (sumOf a b c) x ⌝ }
@@ -153,33 +199,34 @@ fn together(a: Share, b: Share, c: Share) -> Share
     Share {
         allowed: a.allowed & b.allowed & c.allowed,
         gains: b.gains + c.gains + a.gains,
-        losses: b.losses + c.losses,
+        losses: b.losses + c.losses + a.losses,
     }
 }
 
-// The share of state i at the start and at both ends, by what is known there; y1 and y2 are its weights at the ends, plus
-// 10,000.
+// The share of state i at the start and at both ends, by its fixed agents and by what is known there; y1 and y2 are its
+// weights at the ends, plus 10,000.
 pub fn share_by(
     by: Closing,
+    fixed: Fixed,
     start: Known,
     first: Known,
     second: Known,
     i: usize,
-    y1: u32,
-    y2: u32,
+    y1: u16,
+    y2: u16,
 ) -> Share
-    ensures { λ x. ⌜ ShareIs 68719476736 (shareBy by start first second i y1 y2) x ⌝ }
+    ensures { λ x. ⌜ ShareIs 68719476736 (shareBy by fixed start first second i y1 y2) x ⌝ }
 {
     let v = y1 as u64;
     let w = y2 as u64;
     let both = v + w;
     match by {
         Closing::BySums => {
-            let a = start_share(start, i, both);
+            let a = start_share(start, fixed, i, both);
             together(a, end_share(first, i, v), end_share(second, i, w))
         }
         Closing::ByRemainders(m) => {
-            let a = start_remainder(m, start, i, both);
+            let a = start_remainder(m, start, fixed, i, both);
             together(
                 a,
                 end_remainder(m, first, i, v),

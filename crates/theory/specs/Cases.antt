@@ -4,6 +4,7 @@ pub mod Protocol
 pub mod Ladder
 pub mod Tree
 pub mod Remainder
+pub mod Fixed
 pub mod Potential
 pub mod Machine
 pub mod Tables

@@ -8,7 +8,8 @@ use Prim.Native.Nat.{ℕ, suc, _+_, _-_, _*_, _≤_, _<_}
 use lib.ListN.{length}
 use lib.Dec.{eqb}
 use Rattle.theory.specs.Bool.{imp}
-use Rattle.theory.specs.Protocol.{Protocol, agreed, mixed, count, size, pre, post, enabled, fire, terminal, Shows, shows, outputOf, Start, fires}
+use Rattle.theory.specs.Protocol.{Protocol, agreed, mixed, count, size, pre, post, enabled, fire, terminal, Shows}
+use Rattle.theory.specs.Protocol.{shows, outputOf, StartRule, Start, Unfixed, fires}
 use Rattle.theory.specs.Protocol.{after, meetings, EachTried, EachMeeting}
 use Rattle.theory.specs.Ladder.{Layers, OrderedPartition, active, QuietBelow, lowest, layered, Alone, Laddered, spread, spreads, rank}
 use Rattle.theory.specs.Tree.{Tree, next, takes, puts, isTrap, isSiphon, disagreement, treeAnswer}
@@ -50,6 +51,8 @@ module _ (P : Protocol) where
     pub shows-is : (v : Bool) → (shows P v c ≡ true) ↔ Shows P v c
     pub output-is : 0 < size c → (v : Bool) → (outputOf P c ≡ agreed v) ↔ Shows P v c
     pub mixed-is : (outputOf P c ≡ mixed) ↔ ((s : ℕ) × (t : ℕ) × (0 < count c s) × (0 < count c t) × (P .output s ≡ false) × (P .output t ≡ true))
+    -- Where no state has fixed agents, c is a start if it has two agents or more, in input states only.
+    pub start-is : Unfixed P → Start P c ↔ ((2 ≤ size c) × ((s : ℕ) → s < P .states → P .input s ≡ false → count c s ≡ 0))
     -- A rule takes from a set if some state of the set is in its pre, and puts into it if one is in its post.
     pub takes-is : (A : ℕ → Bool) (r : ℕ) → (takes P A r ≡ true) ↔ ((s : ℕ) × (A s ≡ true) × (0 < pre P r s))
     pub puts-is : (A : ℕ → Bool) (r : ℕ) → (puts P A r ≡ true) ↔ ((s : ℕ) × (A s ≡ true) × (0 < post P r s))
@@ -131,11 +134,11 @@ module _ (P : Protocol) where
     pub rank-falls : (xs : List X) → isLayered xs ≡ true → rank P L w (last xs) + met xs ≤ rank P L w c
     pub rests-by-rank : (xs : List X) → isLayered xs ≡ true → met xs ≡ rank P L w c → terminal P (last xs) ≡ true
 
-  -- What consensus gives: from input states only, whatever the size, any two lists, layered or not, that end terminal show one
-  -- output.
+  -- What consensus gives: from counts that keep the start rule, whatever the size, any two lists, layered or not, that end
+  -- terminal show one output.
   abbrev pub OneOutput : List ℕ → {X : Type 0} → (List X → List ℕ) → Type 0
   OneOutput c {X} last =
-      length c ≡ P .states → ((s : ℕ) → s < P .states → P .input s ≡ false → count c s ≡ 0)
+      length c ≡ P .states → ((s : ℕ) → s < P .states → StartRule P c s)
       → (xs ys : List X) → terminal P (last xs) ≡ true → terminal P (last ys) ≡ true → (v : Bool) × Shows P v (last xs) × Shows P v (last ys)
 
 -- ---- Lists of calls: say d x is what call x says on counts d, last xs are the counts that the calls xs leave, from counts c,

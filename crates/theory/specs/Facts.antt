@@ -34,6 +34,12 @@ withAtMostOne F k A = record { absent = F .absent; present = F .present; atMostO
 unfoldable pub withUnused : Facts → ℕ → (ℕ → Bool) → Facts
 withUnused F k A = record { absent = F .absent; present = F .present; atMostOne = F .atMostOne; unused = extend (F .unused) k A }
 
--- A fresh set of facts says only that every state that is no input is absent at the start.
+-- A fresh set of facts says only that every state with fixed agents is present at the start, and that every other state
+-- that is no input is absent there.
 unfoldable pub fresh : Protocol → Facts
-fresh P = record { absent = λ k s. eqb k 0 && (ltb s (P .states) && not (P .input s)); present = λ _ _. false; atMostOne = λ _ _. false; unused = λ _ _. false }
+fresh P = record {
+  absent = λ k s. eqb k 0 && (ltb s (P .states) && (eqb (P .fixed s) 0 && not (P .input s)));
+  present = λ k s. ltb 0 (P .fixed s) && (eqb k 0 && ltb s (P .states));
+  atMostOne = λ _ _. false;
+  unused = λ _ _. false;
+}

@@ -14,6 +14,8 @@ pub mod Small
 
 -- Rule r < rules takes one agent from each of p r, q r (document 01: the before pair) and puts one into each of p′ r, q′
 -- r (the after pair). A before pair may have several rules.
+-- At every start there are fixed s agents in state s (document 02, Job 4), in an input state perhaps more. In a docket of
+-- version 1 there are none.
 pub record Protocol : Type 0 where
   pub states : ℕ
   pub rules : ℕ
@@ -23,6 +25,7 @@ pub record Protocol : Type 0 where
   pub q′ : ℕ → ℕ
   pub output : ℕ → Bool
   pub input : ℕ → Bool
+  pub fixed : ℕ → ℕ
 
 -- What tests 5 and 6 say of a protocol: every rule names states, its pairs are in order and differ, and some state is an
 -- input. That rules differ from each other (test 7) is not needed.
@@ -90,17 +93,32 @@ module _ (P : Protocol) where
   unfoldable pub outputOf : List ℕ → Output
   outputOf c = cond (shows false c) (agreed false) (cond (shows true c) (agreed true) mixed)
 
-  -- A start (the paper: an initial configuration): two agents or more, in input states only.
+  -- The start rule at state s: where it is no input just its fixed agents, where it is one at least these.
+  pub record StartRule (c : List ℕ) (s : ℕ) : Type 0 where
+    pub others : P .input s ≡ false → count c s ≡ P .fixed s
+    pub inputs : P .input s ≡ true → P .fixed s ≤ count c s
+
+  -- A start: two agents or more, and every state keeps the start rule.
+  -- Fixed agents are added to the paper, which has none (in the literature they are called leaders). Where no state has fixed
+  -- agents a start is the paper's initial configuration: two agents or more, in input states only (unfixed-rule, in Laws).
   pub record Start (c : List ℕ) : Type 0 where
     pub sized : length c ≡ P .states
     pub enough : 2 ≤ size c
-    pub inputs : (s : ℕ) → s < P .states → P .input s ≡ false → count c s ≡ 0
+    pub rule : (s : ℕ) → s < P .states → StartRule c s
 
-  -- Whether state s is no input and yet holds an agent.
+  -- Whether state s has fixed agents and is no input: then every start has just these there.
+  abbrev pub onlyFixed : ℕ → Bool
+  onlyFixed s = ltb 0 (P .fixed s) && not (P .input s)
+
+  -- No state has fixed agents (in the field's words: the protocol is leaderless).
+  abbrev pub Unfixed : Type 0
+  Unfixed = (s : ℕ) → s < P .states → P .fixed s ≡ 0
+
+  -- Whether the count of state s is against the start rule.
   unfoldable pub unfit : List ℕ → ℕ → Bool
-  unfit c s = not (P .input s) && ltb 0 (count c s)
+  unfit c s = elim (P .input s) [ true ↦ ltb (count c s) (P .fixed s) | false ↦ not (eqb (count c s) (P .fixed s)) ]
 
-  -- The start test: the lowest state that is no input and holds an agent (the place of refusal 22), or `states` where
+  -- The start test: the lowest state whose count is against the start rule (the place of refusal 22), or `states` where
   -- there is none.
   unfoldable pub startTest : List ℕ → ℕ
   startTest c = firstBelow (P .states) (unfit c)

@@ -9,8 +9,8 @@ use Rattle.theory.specs.Protocol.{size, lose, gain, enabled, fire, termi
 use Rattle.theory.specs.Ladder.{isLower, fits, handoverAt, handover, enabledIn, active, lowest, layered}
 use Rattle.theory.specs.Ladder.{spread, lowersAt, lowering, spreads, spreadsAbove, rankAt, rank}
 use Rattle.theory.specs.Facts.{extend, withAbsent, withPresent, withAtMostOne, withUnused, fresh}
-use Rattle.theory.specs.Leaf.{nonIncreasing, startFits, spare, endFits, surplus, shortfall, leafCloses}
-use Rattle.theory.specs.Remainder.{congruent, exactlyOne, conserved, startVanishes, endVanishes, excess, deficit, remainderCloses}
+use Rattle.theory.specs.Leaf.{extra, spare, nonIncreasing, startFits, times, endFits, surplus, shortfall, leafCloses}
+use Rattle.theory.specs.Remainder.{congruent, exactlyOne, known, conserved, startVanishes, endVanishes, excess, deficit, remainderCloses}
 use Rattle.theory.specs.Tree.{setSize, widestBelow, widest, checked, refusalNumber, forest, takes, puts, touches, follows, isTrap, isSiphon}
 use Rattle.theory.specs.Tree.{within, isSet, isModulus, children, disagreement, isRun, ground, byKind, node, treeAt, treeAnswer}
 use Rattle.theory.specs.Machine.{isRefused, meetingsOf, isSized, isWithin, admitted, admit, chosen, runNumbers}
@@ -36,8 +36,8 @@ laddering = 0
 -- The leaf rule and the remainder rule.
 unfoldable pub closing : ℕ
 unfolding bounds extend withAbsent withPresent withAtMostOne withUnused fresh
-    nonIncreasing startFits spare endFits surplus shortfall leafCloses
-    congruent exactlyOne conserved startVanishes endVanishes excess deficit remainderCloses
+    extra spare nonIncreasing startFits times endFits surplus shortfall leafCloses
+    congruent exactlyOne known conserved startVanishes endVanishes excess deficit remainderCloses
 closing = 0
 
 -- The tree.

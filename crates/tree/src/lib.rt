@@ -86,13 +86,14 @@ fn descend(
     }
 }
 
-// The facts at the root: every state that is no input is absent at the start.
+// The facts at the root: every state with fixed agents is present at the start, every other that is no input is absent.
 fn root_facts(states: &[u8], rules: &[u8], z: Sizes) -> Facts
     requires { ⌜ z .states ≤ 64 ⌝ }
     ensures { λ f. ⌜ factsOf f ≡ fresh (protocolOf z (now (states .entry)) (now (rules .entry))) ⌝ }
 {
     let inputs = format::flag_set(states, z, Flag::Input);
-    Facts::fresh(inputs, z.states)
+    let fixed = format::flag_set(states, z, Flag::Fixed);
+    Facts::fresh(inputs, fixed, z.states)
 }
 
 // The whole tree, which refutes what the aim assumes: accepted (Next), or the first refusal. A node left over is refused.

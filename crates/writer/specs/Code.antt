@@ -8,7 +8,7 @@ use Rattle.format.specs.declared.Sizes.{Sizes}
 use Rattle.shape.specs.Shape.{refusal}
 use Rattle.shape.specs.declared.Tested.{Tested}
 use Rattle.shape.specs.declared.Tested.the-variants.{Passed, Failed}
-use Rattle.writer.specs.Write.{recordTests, writeTests}
+use Rattle.writer.specs.Write.{recordTests, partTests}
 use Rattle.writer.specs.declared.Written.{Written}
 use Rattle.writer.specs.declared.Written.the-variants.{Total, Refused}
 pub mod Laws
@@ -33,9 +33,9 @@ unfoldable pub recordsTested : Sizes → List ℕ → List ℕ → List ℕ → 
 recordsTested z states rules layers leaves =
     judge (λ n k. Failed (refusal n k)) Passed (recordTests z (sections states rules layers [] leaves))
 
--- All tests of the writer.
-unfoldable pub writeTested : Sections → ℕ → Tested
-writeTested x room = judge (λ n k. Failed (refusal n k)) Passed (writeTests x room)
+-- The tests of the writer behind that of the version.
+unfoldable pub partsTested : ℕ → Sections → ℕ → Tested
+partsTested v x room = judge (λ n k. Failed (refusal n k)) Passed (partTests v x room)
 
 -- What two lists of tests find, of which the second, which found o, counts where the first passes.
 abbrev pub behind : Tested → Tested → Tested

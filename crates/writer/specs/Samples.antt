@@ -4,7 +4,7 @@ use mathlib.Core.List.{List, [], _∷_, _++_}
 use Prim.Native.Nat.{ℕ}
 use lib.ListN.{take, set, replicate}
 use Rattle.format.specs.Format.{headerOf, Sections, sections, sectionsOf}
-use Rattle.format.specs.Samples.{broadcast, majority, twoOutcomes, parity}
+use Rattle.format.specs.Samples.{broadcast, majority, twoOutcomes, parity, seeded, quorum}
 use Rattle.shape.specs.Samples.{shaping}
 use Rattle.leaf.specs.Leaf.{badLeaf}
 use Rattle.writer.specs.Write.{headerBytes, docketOf, writeOf, outputOf}
@@ -33,7 +33,7 @@ abbrev said : Written → ℕ × ℕ
 said (Total n) = (0, n)
 said (Refused r) = (r .number, r .place)
 
--- Sections, the room that the output has, and what is said.
+-- Sections, the room that the output has, and what is said in version 1.
 abbrev samples : List (Sections × (ℕ × (ℕ × ℕ)))
 samples =
     (parts broadcast, (99, (0, 99)))
@@ -76,23 +76,61 @@ samples =
     ∷ (withLeaves (16 ∷ 39 ∷ 0 ∷ 0 ∷ 0 ∷ 0 ∷ 240 ∷ 216 ∷ []), (0, (30, 0)))
     ∷ []
 
-abbrev answers : List (Sections × (ℕ × (ℕ × ℕ))) → List (ℕ × ℕ)
-answers [] = []
-answers (c ∷ cs) = said (writeOf (c .0) (c .1 .0)) ∷ answers cs
+abbrev answers : ℕ → List (Sections × (ℕ × (ℕ × ℕ))) → List (ℕ × ℕ)
+answers v [] = []
+answers v (c ∷ cs) = said (writeOf v (c .0) (c .1 .0)) ∷ answers v cs
 
 abbrev expected : List (Sections × (ℕ × (ℕ × ℕ))) → List (ℕ × ℕ)
 expected [] = []
 expected (c ∷ cs) = c .1 .1 ∷ expected cs
 
-samples-right : answers samples ≡ expected samples
+samples-right : answers 1 samples ≡ expected samples
 unfolding writing
 samples-right = refl
 
+-- The sections of seeded, with so many bytes of states.
+abbrev withStates : ℕ → Sections
+withStates n = let x = parts seeded in sections (take n (x .states)) (x .rules) (x .layers) (x .nodes) (x .leaves)
+
+-- In version 2 a state record has three bytes.
+abbrev samples-2 : List (Sections × (ℕ × (ℕ × ℕ)))
+samples-2 =
+    (parts seeded, (185, (0, 185)))
+    ∷ (parts quorum, (500, (0, 405)))
+    ∷ (parts seeded, (184, (30, 0)))
+    ∷ (withStates 11, (185, (31, 0)))
+    ∷ (withStates 10, (0, (31, 0)))
+    ∷ (withStates 2, (185, (31, 0)))
+    ∷ (parts broadcast, (99, (31, 0)))
+    -- Three states: the layers are 12 bytes each, and four of them; the leaf is no whole number of records.
+    ∷ (withStates 9, (185, (31, 4)))
+    -- No states: layers and leaves are not tried.
+    ∷ (withStates 0, (185, (3, 0)))
+    ∷ (parts (set (set seeded 25 233) 26 3), (0, (5, 0)))
+    ∷ (parts (set seeded 27 0), (0, (5, 4)))
+    ∷ []
+
+samples-2-right : answers 2 samples-2 ≡ expected samples-2
+unfolding writing
+samples-2-right = refl
+
+-- Other versions are refused before all else. In version 1 the states of seeded are twelve, so the layers are one record, and the
+-- 16 bytes of the leaf are no whole one.
+versions-right : said (writeOf 0 (parts seeded) 185) ∷ said (writeOf 3 (withStates 11) 0) ∷ said (writeOf 4294967295 (parts broadcast) 99)
+    ∷ said (writeOf 65538 (parts seeded) 185) ∷ said (writeOf 1 (parts seeded) 185) ∷ []
+    ≡ (2, 0) ∷ (2, 0) ∷ (2, 0) ∷ (2, 0) ∷ (31, 4) ∷ []
+unfolding writing
+versions-right = refl
+
 -- The bytes of the docket, and behind them what was there; a refusal leaves all as it was.
-written-bytes : outputOf (parts majority) (replicate 303 170) ≡ majority ++ 170 ∷ 170 ∷ 170 ∷ []
+written-bytes : outputOf 1 (parts majority) (replicate 303 170) ≡ majority ++ 170 ∷ 170 ∷ 170 ∷ []
 unfolding writing
 written-bytes = refl
 
-refused-bytes : outputOf (parts majority) (replicate 299 170) ≡ replicate 299 170
+written-bytes-2 : outputOf 2 (parts seeded) (replicate 187 170) ≡ seeded ++ 170 ∷ 170 ∷ []
+unfolding writing
+written-bytes-2 = refl
+
+refused-bytes : outputOf 1 (parts majority) (replicate 299 170) ≡ replicate 299 170
 unfolding writing
 refused-bytes = refl

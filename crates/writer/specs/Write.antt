@@ -1,5 +1,6 @@
--- The writer of dockets (document 02, Job 3). It is lent the bytes of the five sections, which document 02 calls parts, and an
--- output. It makes tests 31, 3, 5 to 8, 11 and 30, in this order, and writes the docket to the beginning of the output.
+-- The writer of dockets (document 02, Jobs 3 and 4). It is told the version v and lent the bytes of the five sections, which
+-- document 02 calls parts, and an output. It makes tests 2, 31, 3, 5 to 8, 11 and 30, in this order, and writes the docket to the
+-- beginning of the output.
 use mathlib.Core.Path.{_≡_}
 use mathlib.Core.Bool.{Bool, not, cond, _&&_}
 use mathlib.Core.List.{List, [], _∷_, _++_}
@@ -7,11 +8,11 @@ use Prim.Native.Nat.{ℕ, _+_, _*_, _/_, _%_, _<_}
 use lib.Dec.{ltb, eqb}
 use lib.ListN.{length, getD, drop}
 use Rattle.theory.specs.Judge.{Test, only, judge}
-use Rattle.format.specs.Format.{statesLength, rulesLength, layersLength, nodesLength, leavesLength, Sections}
+use Rattle.format.specs.Format.{stateWidth, statesLength, rulesLength, layersLength, nodesLength, leavesLength, Sections}
 use Rattle.format.specs.declared.Sizes.{Sizes}
 use Rattle.format.specs.declared.Offsets.{Offsets}
 use Rattle.format.specs.declared.Header.{Header}
-use Rattle.shape.specs.Shape.{refusal, nth, countTest, sectionTests}
+use Rattle.shape.specs.Shape.{refusal, nth, versionTest, countTest, sectionTests}
 use Rattle.leaf.specs.Leaf.{leafTest}
 use Rattle.writer.specs.declared.Lengths.{Lengths}
 use Rattle.writer.specs.declared.Written.{Written}
@@ -41,39 +42,44 @@ notWhole width n = not (eqb width 0) && not (eqb (n % width) 0)
 abbrev pub records : ℕ → ℕ → ℕ
 records width n = cond (eqb width 0) 0 (n / width)
 
--- Test 31: the sections (states, rules, layers, nodes, leaves) whose length is no whole number of records. A state has 1 byte, a
--- rule 5, a layer 4 for each state, a node 12, a leaf 4 for each state (document 01, "The file").
-abbrev pub lengthFaults : Lengths → List Bool
-lengthFaults n =
-    notWhole 1 (n .states)
+-- How many state records there are.
+abbrev pub statesFor : ℕ → Lengths → ℕ
+statesFor v n = records (stateWidth v) (n .states)
+
+-- Test 31: the sections (states, rules, layers, nodes, leaves) whose length is no whole number of records. A state has 1 byte, in
+-- version 2 it has 3; a rule has 5, a layer 4 for each state, a node 12, a leaf 4 for each state (document 01, "The file").
+abbrev pub lengthFaults : ℕ → Lengths → List Bool
+lengthFaults v n =
+    notWhole (stateWidth v) (n .states)
     ∷ notWhole 5 (n .rules)
-    ∷ notWhole (4 * n .states) (n .layers)
+    ∷ notWhole (4 * statesFor v n) (n .layers)
     ∷ notWhole 12 (n .nodes)
-    ∷ notWhole (4 * n .states) (n .leaves)
+    ∷ notWhole (4 * statesFor v n) (n .leaves)
     ∷ []
 
 -- The version, and the counts that the lengths give, whatever they are.
-abbrev pub sizesFor : Lengths → Sizes
-sizesFor n =
+abbrev pub sizesFor : ℕ → Lengths → Sizes
+sizesFor v n =
     record {
-      version = 1;
-      states = n .states;
+      version = v;
+      states = statesFor v n;
       rules = records 5 (n .rules);
-      layers = records (4 * n .states) (n .layers);
+      layers = records (4 * statesFor v n) (n .layers);
       nodes = records 12 (n .nodes);
-      leaves = records (4 * n .states) (n .leaves);
+      leaves = records (4 * statesFor v n) (n .leaves);
     }
 
 -- The version, and the counts of the sections x.
-abbrev pub sizesIn : Sections → Sizes
-sizesIn x = sizesFor (lengthsOf x)
+abbrev pub sizesIn : ℕ → Sections → Sizes
+sizesIn v x = sizesFor v (lengthsOf x)
 
 -- What test 31 asks for: each length is that of the records counted. Layers and leaves are asked for where there are states.
-pub record WholeRecords (x : Sections) : Type 0 where
-  pub rules : length (x .rules) ≡ rulesLength (sizesIn x)
-  pub layers : 0 < length (x .states) → length (x .layers) ≡ layersLength (sizesIn x)
-  pub nodes : length (x .nodes) ≡ nodesLength (sizesIn x)
-  pub leaves : 0 < length (x .states) → length (x .leaves) ≡ leavesLength (sizesIn x)
+pub record WholeRecords (v : ℕ) (x : Sections) : Type 0 where
+  pub states : length (x .states) ≡ statesLength (sizesIn v x)
+  pub rules : length (x .rules) ≡ rulesLength (sizesIn v x)
+  pub layers : 0 < sizesIn v x .states → length (x .layers) ≡ layersLength (sizesIn v x)
+  pub nodes : length (x .nodes) ≡ nodesLength (sizesIn v x)
+  pub leaves : 0 < sizesIn v x .states → length (x .leaves) ≡ leavesLength (sizesIn v x)
 
 -- ---- The docket
 
@@ -107,36 +113,40 @@ headerBytes h =
     (put16 (at .states) (put16 (at .rules) (put16 (at .layers) (put16 (at .nodes) (put16 (at .leaves) (put16 (at .total) [])))))))))))
 
 -- The docket of the sections x: its header, then the sections without gaps.
-unfoldable pub docketOf : Sections → List ℕ
-docketOf x = headerBytes (headerFor (sizesIn x)) ++ (x .states ++ (x .rules ++ (x .layers ++ (x .nodes ++ x .leaves))))
+unfoldable pub docketOf : ℕ → Sections → List ℕ
+docketOf v x = headerBytes (headerFor (sizesIn v x)) ++ (x .states ++ (x .rules ++ (x .layers ++ (x .nodes ++ x .leaves))))
 
 -- ---- What the writer says and writes, where the output has room for so many bytes
 
 -- Test 31.
-abbrev pub lengthTest : Sections → Test
-lengthTest x = record { number = 31; places = 5; bad = nth (lengthFaults (lengthsOf x)) }
+abbrev pub lengthTest : ℕ → Sections → Test
+lengthTest v x = record { number = 31; places = 5; bad = nth (lengthFaults v (lengthsOf x)) }
 
 -- Tests 5 to 8 and 11, of the sections x with sizes z. The ladder and the tree are not judged.
 abbrev pub recordTests : Sizes → Sections → List Test
 recordTests z x = sectionTests z x ++ leafTest z (x .leaves) ∷ []
 
 -- Test 30: the output is shorter than the total.
-abbrev pub roomTest : Sections → ℕ → Test
-roomTest x room = only 30 (ltb room (length (docketOf x)))
+abbrev pub roomTest : ℕ → Sections → ℕ → Test
+roomTest v x room = only 30 (ltb room (length (docketOf v x)))
+
+-- The tests behind that of the version, in order.
+abbrev pub partTests : ℕ → Sections → ℕ → List Test
+partTests v x room = lengthTest v x ∷ countTest (sizesIn v x) ∷ (recordTests (sizesIn v x) x ++ roomTest v x room ∷ [])
 
 -- All tests, in order.
-abbrev pub writeTests : Sections → ℕ → List Test
-writeTests x room = lengthTest x ∷ countTest (sizesIn x) ∷ (recordTests (sizesIn x) x ++ roomTest x room ∷ [])
+abbrev pub writeTests : ℕ → Sections → ℕ → List Test
+writeTests v x room = versionTest v ∷ partTests v x room
 
 -- The answer: the total, which is the docket's length, or the first refusal that fits.
-unfoldable pub writeOf : Sections → ℕ → Written
-writeOf x room = judge (λ n k. Refused (refusal n k)) (Total (length (docketOf x))) (writeTests x room)
+unfoldable pub writeOf : ℕ → Sections → ℕ → Written
+writeOf v x room = judge (λ n k. Refused (refusal n k)) (Total (length (docketOf v x))) (writeTests v x room)
 
 -- The output `out` after this answer: the docket, and behind it what was there; after a refusal all is as it was.
-abbrev pub written : Sections → List ℕ → Written → List ℕ
-written x out (Total n) = docketOf x ++ drop n out
-written x out (Refused r) = out
+abbrev pub written : ℕ → Sections → List ℕ → Written → List ℕ
+written v x out (Total n) = docketOf v x ++ drop n out
+written v x out (Refused r) = out
 
 -- The output `out` after the call.
-unfoldable pub outputOf : Sections → List ℕ → List ℕ
-outputOf x out = written x out (writeOf x (length out))
+unfoldable pub outputOf : ℕ → Sections → List ℕ → List ℕ
+outputOf v x out = written v x out (writeOf v x (length out))

@@ -5,12 +5,12 @@ ghost use mathlib.Core.List.{_++_};
 ghost use Prim.Native.Nat.{_+_, _*_, _/_, _%_, _≤_};
 ghost use lib.ListN.{length, drop};
 ghost use Rattle.theory.specs.Below.{firstBelow};
-ghost use Rattle.format.specs.Format.{sections};
+ghost use Rattle.format.specs.Format.{stateWidth, sections};
 ghost use Rattle.shape.specs.Shape.{nth};
 ghost use Rattle.shape.specs.Sound.{Limits};
 ghost use Rattle.writer.specs.Write.{notWhole, records, lengthFaults, sizesFor};
 ghost use Rattle.writer.specs.Write.{lengthsOf, sizesIn, headerFor, headerBytes, docketOf, writeOf, outputOf};
-ghost use Rattle.writer.specs.Code.{cut as cutOf, cutSizes, recordsTested, writeTested, replaced};
+ghost use Rattle.writer.specs.Code.{cut as cutOf, cutSizes, recordsTested, partsTested, replaced};
 use format::Header;
 use format::Offsets;
 use format::Sizes;
@@ -53,16 +53,37 @@ fn records_by_states(n: usize, s: usize) -> usize
     n / 4 / s
 }
 
-// Test 31: the first section whose length is no whole number of records, or 5.
-fn length_fault(n: Lengths) -> u32
-    ensures { λ r. ⌜ r ≡ firstBelow 5 (nth (lengthFaults n)) ⌝ }
+// Whether n bytes are no whole number of state records.
+fn not_whole_states(version: u16, n: usize) -> bool
+    ensures { λ t. ⌜ t ≡ notWhole (stateWidth version) n ⌝ }
 {
+    if version == 2 {
+        return n % 3 != 0;
+    }
+    false
+}
+
+// How many whole state records n bytes have.
+fn state_records(version: u16, n: usize) -> usize
+    ensures { λ r. ⌜ r ≡ records (stateWidth version) n ⌝ }
+{
+    if version == 2 {
+        return n / 3;
+    }
+    n
+}
+
+// Test 31: the first section whose length is no whole number of records, or 5.
+fn length_fault(version: u16, n: Lengths) -> u32
+    ensures { λ r. ⌜ r ≡ firstBelow 5 (nth (lengthFaults version n)) ⌝ }
+{
+    let states = state_records(version, n.states);
     shape::first_true(
-        false,
+        not_whole_states(version, n.states),
         n.rules % 5 != 0,
-        not_whole_by_states(n.layers, n.states),
+        not_whole_by_states(n.layers, states),
         n.nodes % 12 != 0,
-        not_whole_by_states(n.leaves, n.states),
+        not_whole_by_states(n.leaves, states),
         true,
     )
 }
@@ -77,17 +98,18 @@ fn cut(n: usize) -> u16
     65535
 }
 
-// The counts that the lengths give.
-fn sizes_for(n: Lengths) -> Sizes
-    ensures { λ z. ⌜ z ≡ cutSizes (sizesFor n) ⌝ }
+// The version, and the counts that the lengths give.
+fn sizes_for(version: u16, n: Lengths) -> Sizes
+    ensures { λ z. ⌜ z ≡ cutSizes (sizesFor version n) ⌝ }
 {
+    let states = state_records(version, n.states);
     Sizes {
-        version: 1,
-        states: cut(n.states),
+        version,
+        states: cut(states),
         rules: cut(n.rules / 5),
-        layers: cut(records_by_states(n.layers, n.states)),
+        layers: cut(records_by_states(n.layers, states)),
         nodes: cut(n.nodes / 12),
-        leaves: cut(records_by_states(n.leaves, n.states)),
+        leaves: cut(records_by_states(n.leaves, states)),
     }
 }
 
@@ -112,7 +134,7 @@ fn header_for(z: Sizes) -> Header
     requires { ⌜ Limits z ⌝ }
     ensures { λ h. ⌜ h ≡ headerFor z ⌝ }
 {
-    let rules = 24 + z.states;
+    let rules = 24 + (format::states_length(z) as u16);
     let layers = rules + 5 * z.rules;
     let nodes = layers + 4 * (z.layers * z.states);
     let leaves = nodes + 12 * z.nodes;
@@ -178,7 +200,8 @@ fn record_tests(states: &[u8], rules: &[u8], layers: &[u8], leaves: &[u8], z: Si
     Tested::Passed
 }
 
-// All tests of the writer: n are the lengths of the sections, z their counts in 16 bits, room the length of the output.
+// The tests of the writer behind that of the version: n are the lengths of the sections, z the version and their counts in 16
+// bits, room the length of the output.
 fn write_tests(
     states: &[u8],
     rules: &[u8],
@@ -190,13 +213,13 @@ fn write_tests(
     room: usize,
 ) -> Tested
     requires lengths { ⌜ n ≡ lengthsOf (sections (now states) (now rules) (now layers) (now nodes) (now leaves)) ⌝ }
-    requires sizes { ⌜ z ≡ cutSizes (sizesFor n) ⌝ }
+    requires sizes { ⌜ z ≡ cutSizes (sizesFor (z .version) n) ⌝ }
     ensures { λ r.
         let x =
         sections (now (states .entry)) (now (rules .entry)) (now (layers .entry)) (now (nodes .entry)) (now (leaves .entry)) in
-        ⌜ r ≡ writeTested x room ⌝ }
+        ⌜ r ≡ partsTested (z .version) x room ⌝ }
 {
-    let place = length_fault(n);
+    let place = length_fault(z.version, n);
     if place < 5 {
         return Tested::Failed(Refusal { number: 31, place });
     }
@@ -238,16 +261,16 @@ fn put_docket(
     h: Header,
     out: &mut [u8],
 ) -> usize
-    requires header { ⌜ h ≡ headerFor (sizesIn (sections (now states) (now rules) (now layers) (now nodes) (now leaves))) ⌝ }
+    requires header { ⌜ h ≡ headerFor (sizesIn (h .sizes .version) (sections (now states) (now rules) (now layers) (now nodes) (now leaves))) ⌝ }
     requires room { ⌜ 24 + length (now states) + length (now rules) + length (now layers) + length (now nodes) + length (now leaves) ≤ length (now out) ⌝ }
     ensures total { λ r.
         let x =
         sections (now (states .entry)) (now (rules .entry)) (now (layers .entry)) (now (nodes .entry)) (now (leaves .entry)) in
-        ⌜ r ≡ length (docketOf x) ⌝ }
+        ⌜ r ≡ length (docketOf (h .sizes .version) x) ⌝ }
     ensures output { λ _.
         let x =
         sections (now (states .entry)) (now (rules .entry)) (now (layers .entry)) (now (nodes .entry)) (now (leaves .entry)) in
-        ⌜ now (out .exit) ≡ docketOf x ++ drop (length (docketOf x)) (now (out .entry)) ⌝ }
+        ⌜ now (out .exit) ≡ docketOf (h .sizes .version) x ++ drop (length (docketOf (h .sizes .version) x)) (now (out .entry)) ⌝ }
 {
     let header = header_bytes(h);
     let states_at = put(out, 0, &header);
@@ -258,8 +281,10 @@ fn put_docket(
     put(out, leaves_at, leaves)
 }
 
-// Writes the docket of the sections to the beginning of the output. What stands behind it stays; a refusal leaves all as it was.
+// Writes the docket of the sections, of this version, to the beginning of the output. What stands behind it stays; a refusal
+// leaves all as it was.
 pub fn write(
+    version: u32,
     states: &[u8],
     rules: &[u8],
     layers: &[u8],
@@ -270,14 +295,20 @@ pub fn write(
     ensures answer { λ r.
         let x =
         sections (now (states .entry)) (now (rules .entry)) (now (layers .entry)) (now (nodes .entry)) (now (leaves .entry)) in
-        ⌜ r ≡ writeOf x (length (now (out .entry))) ⌝ }
+        ⌜ r ≡ writeOf version x (length (now (out .entry))) ⌝ }
     ensures output { λ _.
         let x =
         sections (now (states .entry)) (now (rules .entry)) (now (layers .entry)) (now (nodes .entry)) (now (leaves .entry)) in
-        ⌜ now (out .exit) ≡ outputOf x (now (out .entry)) ⌝ }
+        ⌜ now (out .exit) ≡ outputOf version x (now (out .entry)) ⌝ }
 {
+    if shape::version_fault(version) {
+        return Written::Refused(Refusal {
+            number: 2,
+            place: 0,
+        });
+    }
     let n = measure(states, rules, layers, nodes, leaves);
-    let z = sizes_for(n);
+    let z = sizes_for(version as u16, n);
     let tested = write_tests(states, rules, layers, nodes, leaves, n, z, out.len());
     match tested {
         Tested::Passed => {

@@ -28,6 +28,7 @@ pub fn parity() -> Docket {
         node(1, 1, 0),
     ];
     Docket {
+        version: 1,
         states: vec![state(1, true), state(0, false), state(1, false), state(0, false)],
         rules: vec![
             rule([0, 0], [1, 3], 0),
@@ -58,6 +59,7 @@ pub fn table(m: usize, r: usize, inputs: &[usize]) -> Docket {
     let values = (0..m).map(|v| state(u8::from(v == r), inputs.contains(&v)));
     let value = |v: usize| if v < m { v as i64 } else { 0 };
     Docket {
+        version: 1,
         states: values.chain([state(1, false), state(0, false)]).collect(),
         rules: sums(m, r).chain((0..m).map(|v| told(m, r, v))).collect(),
         weights: vec![
@@ -103,25 +105,34 @@ fn sum_rule(a: usize, b: usize) -> usize {
 
 /// End 2 has the value r alone, end 1 has another value alone, and a node of kind 7 refutes that.
 fn table_tree(m: usize, r: usize) -> Vec<Node> {
-    let tells = |value: usize| m * (m + 1) / 2 + value;
-    let told = |k: usize, value: usize| vec![node(3, k, tells(value)), node(2, k, value), node(1, k, 0)];
     let others: Vec<usize> = (0..m).filter(|&value| value != r).collect();
     let all: Vec<usize> = (0..m).collect();
     let end_1 = which_value(1, m, &all, &|value, later| match value == r {
-        true => alone(1, value, later, told(1, value)),
+        true => alone(1, value, later, told_by(1, m, value)),
         false => alone(1, value, later, vec![remainder_node(0, m as u64)]),
     });
     [
         vec![node(4, 2, r)],
-        which_value(2, m, &others, &|value, _| told(2, value)),
+        which_value(2, m, &others, &|value, _| told_by(2, m, value)),
         alone(2, r, &others, end_1),
     ]
     .concat()
 }
 
+/// A value that is present at an end has told what it is to all that have none.
+pub(super) fn told_by(k: usize, m: usize, value: usize) -> Vec<Node> {
+    let rule = m * (m + 1) / 2 + value;
+    vec![node(3, k, rule), node(2, k, value), node(1, k, 0)]
+}
+
 /// Cases on the first of these values that is present at an end. `argument` is given the value and those after it. Where
 /// none is present, a trap and a siphon refute it.
-fn which_value(k: usize, m: usize, values: &[usize], argument: &dyn Fn(usize, &[usize]) -> Vec<Node>) -> Vec<Node> {
+pub(super) fn which_value(
+    k: usize,
+    m: usize,
+    values: &[usize],
+    argument: &dyn Fn(usize, &[usize]) -> Vec<Node>,
+) -> Vec<Node> {
     match values.split_first() {
         None => vec![set_node(5, k, 0..m), set_node(6, k, 0..m + 2), node(1, k, 0)],
         Some((&value, later)) => [
@@ -134,7 +145,7 @@ fn which_value(k: usize, m: usize, values: &[usize], argument: &dyn Fn(usize, &[
 }
 
 /// A value that is present at an end is there once, without the others; then comes `argument`.
-fn alone(k: usize, value: usize, others: &[usize], argument: Vec<Node>) -> Vec<Node> {
+pub(super) fn alone(k: usize, value: usize, others: &[usize], argument: Vec<Node>) -> Vec<Node> {
     let Some((&other, rest)) = others.split_first() else {
         return [vec![node(3, k, sum_rule(value, value))], argument].concat();
     };
@@ -194,6 +205,7 @@ pub fn digits(m: u64, ends: [u64; 2]) -> Docket {
     let is_last = |i: usize| i + 1 == count;
     let weight = |i: usize| if is_last(i) { 15 } else { 10 * i64::from(i < count) };
     Docket {
+        version: 1,
         states: (0..=count).map(|i| state(1, i == 0)).collect(),
         rules: (0..count).map(|i| doubled(m, count, i)).collect(),
         weights: vec![(0..=count).map(weight).collect()],
@@ -251,6 +263,7 @@ const LAST_MODULUS: i64 = 800;
 /// take 128 such facts.
 pub fn largest(run: usize, weight: i64) -> Docket {
     Docket {
+        version: 1,
         states: (0..64).map(|i| state(1, i != 9 && i != 62)).collect(),
         rules: largest_rules(),
         weights: rising_weights(64, 16),

@@ -1,10 +1,12 @@
 -- All claims are proved. Assumes nothing.
 use Rattle.claims.specs.OfDocket.Proved.{of-docket}
 use Rattle.claims.specs.OfWriter.Proved.{of-writer}
+use Rattle.claims.specs.OfVersions.Proved.{of-versions}
 use Rattle.claims.specs.Claims.{Claims}
 
 pub claims : Claims
 claims = record {
   of-docket = of-docket;
   of-writer = of-writer;
+  of-versions = of-versions;
 }

@@ -2,6 +2,8 @@
 use mathlib.Core.Path.{subst}
 use mathlib.Core.List.{List}
 use Prim.Native.Nat.{ℕ}
+use native.Mathlib.Omega.{arith}
+use borrow.Author.Tests.{ne-eqb}
 use Rattle.theory.specs.Claims.Proved.{theorems}
 use Rattle.format.specs.Format.{headerOf, sectionsOf, protocolIn, weightIn, weightsOf}
 use Rattle.claims.specs.OfDocket.{Rules, IsAccepted, OfDocket}
@@ -28,6 +30,7 @@ of-docket b = record {
   ws² = λ a. theorems (protocolIn b (headerOf b)) .ws² (certified b (headerOf b) (keeps b a));
   layered-by = λ a. theorems (protocolIn b (headerOf b)) .of-ladder (laddered b (headerOf b) (keeps b a)) .layered-by;
   definitions = λ h sound. theorems (protocolIn b h) .as-published (sound .sections .formed);
+  version-1 = λ h e s l. rw (ne-eqb (h .sizes .version) 2 (λ d. omega arith));
   layer-words = λ h sound. theorems (protocolIn b h) .layers-are (sound .sections .formed) (sound .sections .partition) (weightIn b h);
   weight-is = weight-is;
   weight-within = weight-within;

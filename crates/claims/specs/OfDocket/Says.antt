@@ -5,12 +5,13 @@ use mathlib.Core.List.{List}
 use mathlib.Core.Logic.{_↔_}
 use Prim.Native.Nat.{ℕ, _≤_, _<_}
 use native.Mathlib.Omega.{arith}
-use borrow.Author.Tests.{ltb-true, ltb-false, lt-ltb, le-ltb, leb-true, not-true}
+use borrow.Author.Tests.{ltb-true, ltb-false, lt-ltb, le-ltb, leb-true}
 use lib.Dec.{leb, ltb}
-use Rattle.theory.specs.Bool.Laws.{by-test, not-both, is-false, and-elim, and-intro}
+use Rattle.theory.specs.Bool.Laws.{by-test, not-both, is-true, and-elim}
 use Rattle.theory.specs.Below.Laws.{first-le, first-is, first-passes, first-lowest}
 use Rattle.theory.specs.Protocol as theory
-use Rattle.theory.specs.Protocol.{Protocol, WellFormed, count, size, outputOf, unfit, Shows, Start, startTest}
+use Rattle.theory.specs.Protocol.{Protocol, WellFormed, size, outputOf, unfit, Shows, Start, startTest}
+use Rattle.theory.specs.Protocol.Laws.{fit-rule}
 use Rattle.theory.specs.Machine.{step, run, stepReply, runReply, reply, isSized, isWithin, admitted, admit}
 use Rattle.theory.specs.Machine.Laws.{admitted-sized, step-fires, step-no-rule, step-not-enabled}
 use Rattle.theory.specs.Claims.Proved.{theorems}
@@ -73,28 +74,21 @@ enough P c on = leb-true _ _ (and-elim (leb 2 (size c)) (leb (size c) 1000000) (
 module _ (b c : List ℕ) (P : Protocol) (on : admitted P c ≡ true) where
   -- The start test is at the lowest unfit state, or past the states.
   unfit-test : (s : ℕ) → s < P .states → startTest P c ≡ s → LowestUnfit b c P s
-  unfolding startTest unfit
+  unfolding startTest
   unfit-test s l e =
       let here : unfit P c s ≡ true = ap (unfit P c) (sym e) ∙ first-passes (P .states) (unfit P c) (omega arith) in
-      let t = and-elim (not (P .input s)) (ltb 0 (count c s)) here in
       record {
         state = l;
-        no-input = not-true _ (t .0);
-        held = ltb-true _ _ (t .1);
-        lowest-state = λ u m i.
-            let off = first-lowest (P .states) (unfit P c) u (omega arith) in
-            let none : 0 < count c u → ⊥ = λ h. not-both (and-intro _ _ (ap not i) (lt-ltb _ _ h)) off in
-            let zero = is-false (ltb 0 (count c u)) (λ h. none (ltb-true _ _ h)) in
-            let m = ltb-false 0 (count c u) zero in
-            omega arith;
+        against = λ rule. not-both here (fit-rule P c s .1 rule);
+        lowest-state = λ u m. fit-rule P c u .0 (first-lowest (P .states) (unfit P c) u (omega arith));
       }
 
   test-unfit : (s : ℕ) → LowestUnfit b c P s → startTest P c ≡ s
-  unfolding startTest unfit
+  unfolding startTest
   test-unfit s u =
       first-is (P .states) (unfit P c) s (omega (arith, u .state))
-      (λ t l. by-test (P .input t) (λ e. rw e) (λ e. rw e (le-ltb 0 (count c t) (omega (arith, u .lowest-state t l e)))))
-      (λ _. and-intro _ _ (ap not (u .no-input)) (lt-ltb _ _ (u .held)))
+      (λ t l. fit-rule P c t .1 (u .lowest-state t l))
+      (λ _. is-true _ (λ f. u .against (fit-rule P c s .0 f)))
 
   module _ (a : starteds.Started) (e : a ≡ cond (ltb (startTest P c) (P .states)) (started.Refused (refusal 22 (startTest P c))) started.Start) where
     inside : startTest P c < P .states → a ≡ started.Refused (refusal 22 (startTest P c))

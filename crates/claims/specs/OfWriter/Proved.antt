@@ -1,6 +1,6 @@
 -- The claims about the writer are proved. Assumes nothing.
 use mathlib.Core.Path.{_≡_, refl, sym, ap, _∙_, subst}
-use mathlib.Core.Bool.{true}
+use mathlib.Core.Bool.{true, false}
 use mathlib.Core.List.{List, [], _∷_, _++_}
 use mathlib.Core.Logic.{_↔_, _⊎_, inl, inr, ⊎-elim}
 use Prim.Native.Nat.{ℕ, _≤_, _<_}
@@ -9,7 +9,7 @@ use borrow.Author.Tests.{ltb-true, ltb-false, lt-ltb}
 use lib.Dec.{ltb}
 use lib.ListN.{length, take, drop}
 use lib.Seq.{take-at, drop-at}
-use Rattle.theory.specs.Bool.Laws.{by-test, not-both, is-false}
+use Rattle.theory.specs.Bool.Laws.{by-test, not-both, is-true, is-false}
 use Rattle.theory.specs.Below.{Clear, firstBelow}
 use Rattle.theory.specs.Below.Laws.{first-passes, first-lowest}
 use Rattle.theory.specs.Below.Scan.{first-clear}
@@ -20,17 +20,17 @@ use Rattle.theory.specs.Subtree.Laws.{number-12-13}
 use Rattle.format.specs.Format.{headerOf, Sections, sectionsOf, endWeight}
 use Rattle.format.specs.declared.Sizes.{Sizes}
 use Rattle.format.specs.declared.Header.{Header}
-use Rattle.shape.specs.Shape.{refusal, nth, countTest, sectionTests, shapeTests}
-use Rattle.shape.specs.Sound.{Limits, SoundShape}
-use Rattle.shape.specs.Sound.Laws.{limits, sound-passes}
+use Rattle.shape.specs.Shape.{refusal, nth, wrongVersion, versionTest, countTest, sectionTests, shapeTests}
+use Rattle.shape.specs.Sound.{IsVersion, Limits, SoundShape}
+use Rattle.shape.specs.Sound.Laws.{version-passes, limits, sound-passes}
 use Rattle.shape.specs.declared.Refusal.{Refusal}
 use Rattle.leaf.specs.Leaf.{badLeaf, leafTest}
 use Rattle.leaf.specs.Leaf.Laws.{leaf-good, leaf-bad}
 use Rattle.checker.specs.Check.{certificateTests, checkOf}
 use Rattle.checker.specs.declared.Checked.the-variants as checked
 use Rattle.writer.specs.Write.{lengthsOf, lengthFaults, sizesIn, WholeRecords, AreBytes, headerFor, docketOf}
-use Rattle.writer.specs.Write.{lengthTest, recordTests, roomTest, writeTests, writeOf, outputOf, written}
-use Rattle.writer.specs.Write.Laws.{whole-records, whole-clear, docket-length, total-length, total-most, room-passes}
+use Rattle.writer.specs.Write.{lengthTest, recordTests, roomTest, partTests, writeTests, writeOf, outputOf, written}
+use Rattle.writer.specs.Write.Laws.{whole-records, whole-clear, docket-length, total-length, total-by-width, room-passes}
 use Rattle.writer.specs.Write.RoundTrip.{header-same, sections-same, written-sound, written-again, again-passes}
 use Rattle.writer.specs.declared.Written.{Written}
 use Rattle.writer.specs.declared.Written.the-variants.{Total, Refused}
@@ -63,14 +63,14 @@ tells n k m j e = (ap numberIn e, ap placeIn e)
 refused-not-total : {r : Refusal} {n : ℕ} → Refused r ≡ Total n → ⊥
 refused-not-total {r} {n} e = let z : _≡_ {A = ℕ} 0 1 = cc in omega arith
 
-module _ (x : Sections) (out : List ℕ) where
+module _ (v : ℕ) (x : Sections) (out : List ℕ) where
   abbrev tests : List Test
-  tests = writeTests x (length out)
+  tests = writeTests v x (length out)
 
   abbrev len : ℕ
-  len = length (docketOf x)
+  len = length (docketOf v x)
 
-  total-is : (n : ℕ) → (writeOf x (length out) ≡ Total n) ↔ (Passes tests × (n ≡ len))
+  total-is : (n : ℕ) → (writeOf v x (length out) ≡ Total n) ↔ (Passes tests × (n ≡ len))
   unfolding writeOf
   total-is n = (
     λ e.
@@ -79,24 +79,62 @@ module _ (x : Sections) (out : List ℕ) where
     λ p. passes-judge refuse (Total len) tests (p .0) ∙ ap Total (sym (p .1)),
   )
 
-  refusal-is : (n k : ℕ) → (writeOf x (length out) ≡ refuse n k) ↔ FirstFits tests n k
+  refusal-is : (n k : ℕ) → (writeOf v x (length out) ≡ refuse n k) ↔ FirstFits tests n k
   unfolding writeOf
   refusal-is n k = (
     λ e. ⊎-elim (λ f. f) (λ p. absurd (refused-not-total (sym (p .1)))) (refused-by refuse (Total len) tells tests n k e),
     fits-refuses refuse (Total len) tests n k,
   )
 
+  -- The version by its test.
+  known-clear : IsVersion v → wrongVersion v ≡ false
+  known-clear = version-passes v .1
+
+  refusal-2 : (k : ℕ) → (writeOf v x (length out) ≡ refuse 2 k) ↔ ((k ≡ 0) × (IsVersion v → ⊥))
+  refusal-2 k = (
+    λ e.
+        let none : FirstFits (partTests v x (length out)) 2 k → ⊥ = λ f.
+        let other : (m : ℕ) → 2 < m → m ≡ 2 → ⊥ = λ m l d. omega arith in
+        fits-none 2 k (fits-past (partTests v x (length out)) [] 2 k (
+          other 31 (omega arith),
+          (
+            other 3 (omega arith),
+            (
+              other 5 (omega arith),
+              (
+                other 6 (omega arith),
+                (other 7 (omega arith), (other 8 (omega arith), (other 11 (omega arith), (other 30 (omega arith), tt)))),
+              ),
+            ),
+          ),
+        ) f .1) in
+        let h = fits-here (versionTest v) (partTests v x (length out)) 2 k none (refusal-is 2 k .0 e) in
+        (omega (arith, h .1), λ known. not-both (h .2) (known-clear known)),
+    λ p. refusal-is 2 k .1 (record {
+      earlier = [];
+      test = versionTest v;
+      later = partTests v x (length out);
+      in-order = refl;
+      earlier-pass = tt;
+      number-is = refl;
+      within = omega (arith, p .0);
+      fits = is-true _ (λ e. p .1 (version-passes v .0 e));
+      lowest-place = λ j l. absurd (omega (arith, p .0));
+    }),
+  )
+
   -- The tests behind 31, and those before 30.
   abbrev later : List Test
-  later = countTest (sizesIn x) ∷ (recordTests (sizesIn x) x ++ roomTest x (length out) ∷ [])
+  later = countTest (sizesIn v x) ∷ (recordTests (sizesIn v x) x ++ roomTest v x (length out) ∷ [])
 
   abbrev earlier : List Test
-  earlier = lengthTest x ∷ countTest (sizesIn x) ∷ recordTests (sizesIn x) x
+  earlier = versionTest v ∷ lengthTest v x ∷ countTest (sizesIn v x) ∷ recordTests (sizesIn v x) x
 
-  refusal-31 : (k : ℕ) → let fault = nth (lengthFaults (lengthsOf x)) in
-      (writeOf x (length out) ≡ refuse 31 k) ↔ ((k < 5) × (fault k ≡ true) × Clear fault k)
-  refusal-31 k = (
+  refusal-31 : IsVersion v → (k : ℕ) → let fault = nth (lengthFaults v (lengthsOf x)) in
+      (writeOf v x (length out) ≡ refuse 31 k) ↔ ((k < 5) × (fault k ≡ true) × Clear fault k)
+  refusal-31 known k = (
     λ e.
+        let first : Passes (versionTest v ∷ []) = (λ j l. known-clear known, tt) in
         let none : FirstFits later 31 k → ⊥ = λ f.
         let other : (m : ℕ) → m < 31 → m ≡ 31 → ⊥ = λ m l d. omega arith in
         fits-none 31 k (fits-past later [] 31 k (
@@ -112,14 +150,14 @@ module _ (x : Sections) (out : List ℕ) where
             ),
           ),
         ) f .1) in
-        let h = fits-here (lengthTest x) later 31 k none (refusal-is 31 k .0 e) in
+        let h = fits-here (lengthTest v x) later 31 k none (fits-after (versionTest v ∷ []) (lengthTest v x ∷ later) 31 k first (refusal-is 31 k .0 e)) in
         (h .1, h .2, h .3),
     λ p. refusal-is 31 k .1 (record {
-      earlier = [];
-      test = lengthTest x;
+      earlier = versionTest v ∷ [];
+      test = lengthTest v x;
       later = later;
       in-order = refl;
-      earlier-pass = tt;
+      earlier-pass = (λ j l. known-clear known, tt);
       number-is = refl;
       within = p .0;
       fits = p .1;
@@ -127,23 +165,23 @@ module _ (x : Sections) (out : List ℕ) where
     }),
   )
 
-  no-31 : ((k : ℕ) → writeOf x (length out) ≡ refuse 31 k → ⊥) ↔ WholeRecords x
-  no-31 =
-      let f = nth (lengthFaults (lengthsOf x)) in (
+  no-31 : IsVersion v → ((k : ℕ) → writeOf v x (length out) ≡ refuse 31 k → ⊥) ↔ WholeRecords v x
+  no-31 known =
+      let f = nth (lengthFaults v (lengthsOf x)) in (
         λ none.
-            whole-records x
+            whole-records v x
             (by-test (ltb (firstBelow 5 f) 5)
             (λ l.
             let m : firstBelow 5 f < 5 = ltb-true (firstBelow 5 f) 5 l in
-            absurd (none (firstBelow 5 f) (refusal-31 (firstBelow 5 f) .1 (m, first-passes 5 f m, λ k n. first-lowest 5 f k n))))
+            absurd (none (firstBelow 5 f) (refusal-31 known (firstBelow 5 f) .1 (m, first-passes 5 f m, λ k n. first-lowest 5 f k n))))
             (λ l. first-clear 5 f (ltb-false (firstBelow 5 f) 5 l))),
-        λ w k e. let p = refusal-31 k .0 e in not-both (p .1) (whole-clear x w k (p .0)),
+        λ w k e. let p = refusal-31 known k .0 e in not-both (p .1) (whole-clear v x w k (p .0)),
       )
 
-  refusal-30 : (k : ℕ) → (writeOf x (length out) ≡ refuse 30 k) ↔ ((k ≡ 0) × Passes earlier × (length out < len))
+  refusal-30 : (k : ℕ) → (writeOf v x (length out) ≡ refuse 30 k) ↔ ((k ≡ 0) × Passes earlier × (length out < len))
   refusal-30 k = (
     λ e.
-        let p = fits-past earlier (roomTest x (length out) ∷ []) 30 k (
+        let p = fits-past earlier (roomTest v x (length out) ∷ []) 30 k (
           (λ d. absurd (omega arith)),
           (
             (λ d. absurd (omega arith)),
@@ -151,16 +189,19 @@ module _ (x : Sections) (out : List ℕ) where
               (λ d. absurd (omega arith)),
               (
                 (λ d. absurd (omega arith)),
-                ((λ d. absurd (omega arith)), ((λ d. absurd (omega arith)), ((λ d. absurd (omega arith)), tt))),
+                (
+                  (λ d. absurd (omega arith)),
+                  ((λ d. absurd (omega arith)), ((λ d. absurd (omega arith)), ((λ d. absurd (omega arith)), tt))),
+                ),
               ),
             ),
           ),
         ) (refusal-is 30 k .0 e) in
-        let h = fits-here (roomTest x (length out)) [] 30 k (fits-none 30 k) (p .1) in
+        let h = fits-here (roomTest v x (length out)) [] 30 k (fits-none 30 k) (p .1) in
         (omega (arith, h .1), p .0, ltb-true (length out) len (h .2)),
     λ p. refusal-is 30 k .1 (record {
       earlier = earlier;
-      test = roomTest x (length out);
+      test = roomTest v x (length out);
       later = [];
       in-order = refl;
       earlier-pass = p .1;
@@ -173,38 +214,41 @@ module _ (x : Sections) (out : List ℕ) where
 
   -- The numbers of the writer's refusals.
   abbrev numbers : List ℕ
-  numbers = 31 ∷ 3 ∷ 5 ∷ 6 ∷ 7 ∷ 8 ∷ 11 ∷ 30 ∷ []
+  numbers = 2 ∷ 31 ∷ 3 ∷ 5 ∷ 6 ∷ 7 ∷ 8 ∷ 11 ∷ 30 ∷ []
 
-  one-of : isOneOf (numberIn (writeOf x (length out))) numbers ≡ true
+  one-of : isOneOf (numberIn (writeOf v x (length out))) numbers ≡ true
   unfolding isOneOf writeOf
   one-of =
       judge-number numberIn refuse (Total len) numbers (λ n k. refl) refl tests
-      (refl, (refl, (refl, (refl, (refl, (refl, (refl, (refl, tt))))))))
+      (refl, (refl, (refl, (refl, (refl, (refl, (refl, (refl, (refl, tt)))))))))
 
-  code : (writeCode (writeOf x (length out)) ≡ 0) ↔ ((n : ℕ) × (writeOf x (length out) ≡ Total n))
+  code : (writeCode (writeOf v x (length out)) ≡ 0) ↔ ((n : ℕ) × (writeOf v x (length out) ≡ Total n))
   unfolding isOneOf
-  code = (go (writeOf x (length out)) one-of, λ s. ap writeCode (s .1))
+  code = (go (writeOf v x (length out)) one-of, λ s. ap writeCode (s .1))
     where
       go : (a : Written) → isOneOf (numberIn a) numbers ≡ true → writeCode a ≡ 0 → (n : ℕ) × (a ≡ Total n)
       go (Total n) p e = (n, refl)
       go (Refused r) p e = absurd (not-zero (r .number) numbers p refl (omega arith))
 
-  place : (n k : ℕ) → writeOf x (length out) ≡ refuse n k → k < 65536
+  place : (n k : ℕ) → writeOf v x (length out) ≡ refuse n k → k < 65536
   place n k e =
+      ⊎-elim (λ h. omega (arith, h .1)) (λ u.
       ⊎-elim (λ h. omega (arith, h .1)) (λ s.
       ⊎-elim (λ h. omega (arith, h .1)) (λ t.
-      let l : Limits (sizesIn x) = limits (sizesIn x) (t .0) in
+      let l : Limits (sizesIn v x) = limits (sizesIn v x) (t .0) in
       fits-place 65536 n k _ (
         omega (arith, l .states-most),
         (omega (arith, l .rules-most), (omega (arith, l .rules-most), (omega (arith, l .layers-most), (omega (arith, l .leaves-most), (omega arith, tt))))),
       ) (t .1))
-      (fits-split (countTest (sizesIn x)) _ n k (s .1)))
-      (fits-split (lengthTest x) later n k (refusal-is n k .0 e))
+      (fits-split (countTest (sizesIn v x)) _ n k (s .1)))
+      (fits-split (lengthTest v x) later n k (u .1)))
+      (fits-split (versionTest v) (partTests v x (length out)) n k (refusal-is n k .0 e))
 
-  answers : Answers x out
+  answers : Answers v x out
   answers = record {
     total-is = total-is;
     refusal-is = refusal-is;
+    refusal-2 = refusal-2;
     refusal-31 = refusal-31;
     no-31 = no-31;
     refusal-30 = refusal-30;
@@ -212,38 +256,41 @@ module _ (x : Sections) (out : List ℕ) where
     place = place;
   }
 
-  unchanged : (r : Refusal) → writeOf x (length out) ≡ Refused r → outputOf x out ≡ out
+  unchanged : (r : Refusal) → writeOf v x (length out) ≡ Refused r → outputOf v x out ≡ out
   unfolding outputOf
-  unchanged r e = ap (written x out) e
+  unchanged r e = ap (written v x out) e
 
 -- ---- What is written
 
 -- All tests of the sections pass.
-module _ (x : Sections) (p : Passes (lengthTest x ∷ countTest (sizesIn x) ∷ recordTests (sizesIn x) x)) where
+module _ (v : ℕ) (x : Sections) (p : Passes (versionTest v ∷ lengthTest v x ∷ countTest (sizesIn v x) ∷ recordTests (sizesIn v x) x)) where
   abbrev z : Sizes
-  z = sizesIn x
+  z = sizesIn v x
 
   abbrev b : List ℕ
-  b = docketOf x
+  b = docketOf v x
 
-  w : WholeRecords x
-  w = whole-records x (p .0)
+  known : IsVersion v
+  known = version-passes v .0 (p .0 0 (omega arith))
+
+  w : WholeRecords v x
+  w = whole-records v x (p .1 .0)
 
   L : Limits z
-  L = limits z (p .1 .0)
+  L = limits z (p .1 .1 .0)
 
   sound : SoundShape b (headerFor z)
-  sound = written-sound x w L (passes-front (sectionTests z x) (leafTest z (x .leaves) ∷ []) (p .1 .1))
+  sound = written-sound v x known w L (passes-front (sectionTests z x) (leafTest z (x .leaves) ∷ []) (p .1 .1 .1))
 
   clear : Clear (badLeaf z (x .leaves)) (z .leaves)
-  clear = passes-back (sectionTests z x) (leafTest z (x .leaves) ∷ []) (p .1 .1) .0
+  clear = passes-back (sectionTests z x) (leafTest z (x .leaves) ∷ []) (p .1 .1 .1) .0
 
   -- What holds of the header that was written and of the sections x holds of what is read.
   read : (Q : Header → Sections → Type 0) → Q (headerFor z) x → Q (headerOf b) (sectionsOf b (headerOf b))
-  read Q q = subst (λ h. Q h (sectionsOf b h)) (sym (header-same x w L)) (subst (Q (headerFor z)) (sym (sections-same x w L)) q)
+  read Q q = subst (λ h. Q h (sectionsOf b h)) (sym (header-same v x known w L)) (subst (Q (headerFor z)) (sym (sections-same v x known w L)) q)
 
   sound-read : SoundShape b (headerOf b)
-  sound-read = subst (SoundShape b) (sym (header-same x w L)) sound
+  sound-read = subst (SoundShape b) (sym (header-same v x known w L)) sound
 
   readable : Readable b (headerOf b)
   readable = record {
@@ -270,31 +317,32 @@ module _ (x : Sections) (p : Passes (lengthTest x ∷ countTest (sizesIn x) ∷ 
       (λ q. ⊎-elim (λ d. inr (inr (inl d))) (λ d. inr (inr (inr d))) (number-12-13 _ _ _ m k (q .1)))
       (check.refusal-is b m k .0 e)
 
-module _ (x : Sections) (out : List ℕ) (n : ℕ) (e : writeOf x (length out) ≡ Total n) where
-  abbrev all : Passes (writeTests x (length out)) × (n ≡ length (docketOf x))
-  all = total-is x out n .0 e
+module _ (v : ℕ) (x : Sections) (out : List ℕ) (n : ℕ) (e : writeOf v x (length out) ≡ Total n) where
+  abbrev all : Passes (writeTests v x (length out)) × (n ≡ length (docketOf v x))
+  all = total-is v x out n .0 e
 
-  passes : Passes (lengthTest x ∷ countTest (sizesIn x) ∷ recordTests (sizesIn x) x)
-  passes = passes-front (lengthTest x ∷ countTest (sizesIn x) ∷ recordTests (sizesIn x) x) (roomTest x (length out) ∷ []) (all .0)
+  passes : Passes (versionTest v ∷ lengthTest v x ∷ countTest (sizesIn v x) ∷ recordTests (sizesIn v x) x)
+  passes = passes-front (versionTest v ∷ lengthTest v x ∷ countTest (sizesIn v x) ∷ recordTests (sizesIn v x) x) (roomTest v x (length out) ∷ []) (all .0)
 
-  output : outputOf x out ≡ docketOf x ++ drop n out
+  output : outputOf v x out ≡ docketOf v x ++ drop n out
   unfolding outputOf
-  output = ap (written x out) e
+  output = ap (written v x out) e
 
-  docket : take n (outputOf x out) ≡ docketOf x
-  docket = ap (take n) output ∙ take-at (docketOf x) (drop n out) n (sym (all .1))
+  docket : take n (outputOf v x out) ≡ docketOf v x
+  docket = ap (take n) output ∙ take-at (docketOf v x) (drop n out) n (sym (all .1))
 
-  writes : Wrote x out n
+  writes : Wrote v x out n
   writes = record {
-    total-sum = all .1 ∙ docket-length x;
-    total-most = omega (arith, all .1, total-length x (w x passes) (omega (arith, L x passes .states-least)), total-most (sizesIn x) (L x passes));
-    room = omega (arith, all .1, ltb-false (length out) (length (docketOf x)) (room-passes x (length out) (all .0)));
+    total-sum = all .1 ∙ docket-length v x;
+    total-most =
+        omega (arith, all .1, total-length v x (w v x passes) (omega (arith, L v x passes .states-least)), total-by-width (sizesIn v x) (L v x passes));
+    room = omega (arith, all .1, ltb-false (length out) (length (docketOf v x)) (room-passes v x (length out) (all .0 .1)));
     docket = docket;
-    rest-stays = ap (drop n) output ∙ drop-at (docketOf x) (drop n out) n (sym (all .1));
-    header = ap headerOf docket ∙ header-same x (w x passes) (L x passes);
-    readable = subst (λ b. Readable b (headerOf b)) (sym docket) (readable x passes);
-    same-sections = subst (λ b. sectionsOf b (headerOf b) ≡ x) (sym docket) (read x passes (λ _ y. y ≡ x) refl);
-    check-says = λ m k r. check-says x passes m k (ap checkOf (sym docket) ∙ r);
+    rest-stays = ap (drop n) output ∙ drop-at (docketOf v x) (drop n out) n (sym (all .1));
+    header = ap headerOf docket ∙ header-same v x (known v x passes) (w v x passes) (L v x passes);
+    readable = subst (λ b. Readable b (headerOf b)) (sym docket) (readable v x passes);
+    same-sections = subst (λ b. sectionsOf b (headerOf b) ≡ x) (sym docket) (read v x passes (λ _ y. y ≡ x) refl);
+    check-says = λ m k r. check-says v x passes m k (ap checkOf (sym docket) ∙ r);
   }
 
 -- ---- What is written again
@@ -314,22 +362,26 @@ module _ (b : List ℕ) (bytes : AreBytes b) (h : Header) (g : Readable b h) whe
   abbrev x : Sections
   x = sectionsOf b h
 
-  same : docketOf x ≡ b
+  abbrev v : ℕ
+  v = h .sizes .version
+
+  same : docketOf v x ≡ b
   same = written-again b h (g .shape) bytes
 
-  passes-again : (room : ℕ) → length b ≤ room → Passes (writeTests x room)
+  passes-again : (room : ℕ) → length b ≤ room → Passes (writeTests v x room)
   passes-again = again-passes b h (g .shape) bytes (leaf-weights-is b h .0 (g .leaf-weights) .0)
 
-  again : (out : List ℕ) → length b ≤ length out → (writeOf x (length out) ≡ Total (length b)) × (outputOf x out ≡ b ++ drop (length b) out)
+  again : (out : List ℕ) → length b ≤ length out → (writeOf v x (length out) ≡ Total (length b)) × (outputOf v x out ≡ b ++ drop (length b) out)
   again out fits =
-      let total = total-is x out (length b) .1 (passes-again (length out) fits, sym (ap length same)) in
-      (total, output x out (length b) total ∙ ap (λ d. d ++ drop (length b) out) same)
+      let total = total-is v x out (length b) .1 (passes-again (length out) fits, sym (ap length same)) in
+      (total, output v x out (length b) total ∙ ap (λ d. d ++ drop (length b) out) same)
 
-  no-room : (out : List ℕ) → length out < length b → writeOf x (length out) ≡ refuse 30 0
+  no-room : (out : List ℕ) → length out < length b → writeOf v x (length out) ≡ refuse 30 0
   no-room out short =
-      refusal-30 x out 0 .1 (
+      refusal-30 v x out 0 .1 (
         refl,
-        passes-front (lengthTest x ∷ countTest (sizesIn x) ∷ recordTests (sizesIn x) x) (roomTest x (length b) ∷ []) (passes-again (length b) (omega arith)),
+        passes-front (versionTest v ∷ lengthTest v x ∷ countTest (sizesIn v x) ∷ recordTests (sizesIn v x) x) (roomTest v x (length b) ∷ [])
+            (passes-again (length b) (omega arith)),
         omega (arith, ap length same),
       )
 

@@ -1,7 +1,7 @@
 -- Laws for the functions on counts and for their callers. Assumes nothing.
 use mathlib.Core.Path.{_≡_, refl, sym, ap, _∙_}
 use mathlib.Core.Bool.{Bool, true, false, not, cond, _&&_}
-use mathlib.Core.List.{List}
+use mathlib.Core.List.{List, []}
 use mathlib.Core.Logic.{_⊎_, inl, inr, ⊎-elim, by-cases}
 use Prim.Native.Nat.{ℕ, _+_, _-_, _*_, _≤_, _<_}
 use native.Mathlib.Decide.{decLt, ℕ-discrete}
@@ -14,12 +14,12 @@ use Rattle.theory.specs.Bool.Laws.{by-test, not-both, is-false, and-intro, and-
 use Rattle.theory.specs.Below.{sumBelow, firstBelow}
 use Rattle.theory.specs.Below.Laws.{below-suc, sum-same, first-le, first-is}
 use Rattle.theory.specs.Weigh.Laws.{weigh-sum, weigh-at}
-use Rattle.theory.specs.Protocol.{Protocol, count, size, lose, gain, enabled, fire}
+use Rattle.theory.specs.Protocol.{Protocol, count, size, lose, gain, enabled, fire, unfit}
 use Rattle.theory.specs.Ladder.{Layers, enabledIn, active, lowest}
 use Rattle.theory.specs.Ladder.Active.{enabledIn-elim, active-elim, active-intro}
 use Rattle.theory.specs.Machine.{isSized, isWithin, admitted, admit, chosen}
 use Rattle.format.specs.Code.{Value}
-use Rattle.format.specs.Format.{ruleOf, protocolOf}
+use Rattle.format.specs.Format.{fixedOf, isInput, ruleOf, protocolOf}
 use Rattle.format.specs.declared.Sizes.{Sizes}
 use Rattle.format.specs.declared.Rule.{Rule}
 use Rattle.counts.specs.Code.{countsFault, pairEnabled, Most}
@@ -270,3 +270,17 @@ module _ (P : Protocol) (L : Layers) (c : List ℕ) where
       (h .found)
 
 pub ruleset choosing = (best-of-none, best-not-lower, best-not-enabled, best-lower, chosen-bottom, chosen-best, enabled-pair)
+
+-- ---- The start rule
+
+-- State s holds m agents; t says whether it is an input, and n is the number of its fixed agents.
+module _ (z : Sizes) (states c : List ℕ) (s m n : ℕ) (t : Bool) (hm : m ≡ count c s) (hn : n ≡ fixedOf z states s) (ht : t ≡ isInput z states s) where
+  pub unfit-input : t ≡ true → ltb m n ≡ unfit (protocolOf z states []) c s
+  unfolding unfit
+  unfit-input e = rw (unfit, ← ht, e, hm, hn)
+
+  pub unfit-other : t ≡ false → not (eqb m n) ≡ unfit (protocolOf z states []) c s
+  unfolding unfit
+  unfit-other e = rw (unfit, ← ht, e, hm, hn)
+
+pub ruleset unfits = (unfit-input, unfit-other)

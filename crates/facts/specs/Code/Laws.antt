@@ -199,21 +199,42 @@ first-at w n h (suc k) i =
 first-in : (w n : ℕ) → w < 2 ^ 64 → inWords 1 (w ∷ replicate n 0) ≡ (λ k i. eqb k 0 && member w i)
 first-in w n h = fun-ext (λ k. fun-ext (first-at w n h k))
 
--- The words of a fresh set of facts: u has the states, x the inputs, w the others.
-pub fresh-words : (n u x w : ℕ) → w < 2 ^ 64 → member u ≡ fullOf n → member w ≡ withoutOf u x
-    → factsOf (record { absent = w ∷ replicate 2 0; present = replicate 3 0; «at_most_one» = replicate 3 0; unused = replicate 12 0 }) ≡ freshOf n (member x)
+-- The words of a fresh set of facts: u has the states, x the inputs, y the states with fixed agents, v the states that are no
+-- inputs, w those of v that have no fixed agents.
+pub fresh-words : (n u x y v w : ℕ) → y < 2 ^ 64 → w < 2 ^ 64 → member u ≡ fullOf n → member v ≡ withoutOf u x → member w ≡ withoutOf v y
+    → factsOf (record { absent = w ∷ replicate 2 0; present = y ∷ replicate 2 0; «at_most_one» = replicate 3 0; unused = replicate 12 0 })
+    ≡ freshOf n (member x) (member y)
 unfolding freshOf
-fresh-words n u x w h d e = rw (first-in w 2 h, none-in 1 3, none-in 4 12, e, d)
+fresh-words n u x y v w i h d e f = rw (first-in w 2 h, first-in y 2 i, none-in 1 3, none-in 4 12, f, e, d)
 
--- By the word of a protocol's inputs they are the protocol's.
-pub fresh-is : (P : Protocol) (u : ℕ) → P .states ≤ 64 → member u ≡ amongOf (P .states) (P .input) → freshOf (P .states) (member u) ≡ fresh P
+-- By the words of a protocol's inputs and of its states with fixed agents they are the protocol's.
+pub fresh-is : (P : Protocol) (u v : ℕ) → P .states ≤ 64 → member u ≡ amongOf (P .states) (P .input) → member v ≡ amongOf (P .states) (λ s. ltb 0 (P .fixed s))
+    → freshOf (P .states) (member u) (member v) ≡ fresh P
 unfolding fresh freshOf amongOf
-fresh-is P u h e =
-    ap (λ (f : ℕ → ℕ → Bool). record { absent = f; present = λ _ _. false; atMostOne = λ _ _. false; unused = λ _ _. false })
-    (fun-ext (λ k. fun-ext (λ s. ap (λ (b : Bool). eqb k 0 && b) (at s))))
+fresh-is P u v h e d =
+    ap (λ (f : (ℕ → ℕ → Bool) × (ℕ → ℕ → Bool)). record { absent = f .0; present = f .1; atMostOne = λ _ _. false; unused = λ _ _. false })
+    (pair-ap (fun-ext (λ k. fun-ext (λ s. ap (λ (b : Bool). eqb k 0 && b) (absent-at s)))) (fun-ext (λ k. fun-ext (present-at k))))
   where
-    at : (s : ℕ) → (ltb s 64 && ltb s (P .states)) && not (member u s) ≡ ltb s (P .states) && not (P .input s)
-    at s =
+    pair-ap : {f f′ g g′ : ℕ → ℕ → Bool} → f ≡ f′ → g ≡ g′ → _≡_ {A = (ℕ → ℕ → Bool) × (ℕ → ℕ → Bool)} (f, g) (f′, g′)
+    pair-ap p q = rw (p, q)
+
+    other-at : (s : ℕ) → not (P .input s) && not (ltb 0 (P .fixed s)) ≡ eqb (P .fixed s) 0 && not (P .input s)
+    other-at s =
+        by-test (eqb (P .fixed s) 0)
+        (λ z. rw (z, le-ltb 0 (P .fixed s) (omega (arith, eqb-true (P .fixed s) 0 z))) (and-true (not (P .input s))))
+        (λ z. rw (z, lt-ltb 0 (P .fixed s) (omega (arith, eqb-false (P .fixed s) 0 z))) (and-false (not (P .input s))))
+
+    absent-at : (s : ℕ)
+        → ((ltb s 64 && ltb s (P .states)) && not (member u s)) && not (member v s) ≡ ltb s (P .states) && (eqb (P .fixed s) 0 && not (P .input s))
+    absent-at s =
         by-test (ltb s (P .states))
-        (λ l. rw (e, l, lt-ltb s 64 (omega (arith, ltb-true s (P .states) l))))
+        (λ l. rw (e, d, l, lt-ltb s 64 (omega (arith, ltb-true s (P .states) l))) (other-at s))
         (λ l. rw (l, and-false (ltb s 64)))
+
+    present-at : (k s : ℕ) → eqb k 0 && member v s ≡ ltb 0 (P .fixed s) && (eqb k 0 && ltb s (P .states))
+    present-at k s =
+        by-test (ltb s (P .states))
+        (λ l.
+        rw (d, l, lt-ltb s 64 (omega (arith, ltb-true s (P .states) l)))
+        (by-test (eqb k 0) (λ z. rw z (sym (and-true (ltb 0 (P .fixed s))))) (λ z. rw z (sym (and-false (ltb 0 (P .fixed s)))))))
+        (λ l. rw (d, l, and-false (ltb s 64), and-false (eqb k 0), and-false (ltb 0 (P .fixed s))))

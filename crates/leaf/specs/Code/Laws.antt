@@ -20,17 +20,19 @@ use Rattle.theory.specs.Below.Laws.{all-elim, all-intro, all-fails, first-is, f
 use Rattle.theory.specs.Facts.{Facts}
 use Rattle.bits.specs.Code.{withoutOf}
 use Rattle.format.specs.Code.{Value}
-use Rattle.format.specs.Format.{ruleOf, protocolOf, endWeight, weightsOf}
+use Rattle.format.specs.Format.{fixedOf, isInput, ruleOf, protocolOf, endWeight, weightsOf}
 use Rattle.format.specs.declared.Rule.{Rule}
 use Rattle.format.specs.declared.Sizes.{Sizes}
 use Rattle.facts.specs.Code.{inWord}
 use Rattle.share.specs.Code.{closesBy, keptBy, relatesBy, KnownAt, shareBy, ShareIs}
 use Rattle.share.specs.Code.Laws.{relates-equal, kept-is, first-breaks, second-breaks, share, share-none, by-shares}
 use Rattle.share.specs.declared.Closing.{Closing}
+use Rattle.share.specs.declared.Fixed.{Fixed}
 use Rattle.share.specs.declared.Known.{Known}
 use Rattle.share.specs.declared.Share.{Share}
 use Rattle.leaf.specs.declared.Change.{Change}
-use Rattle.leaf.specs.Code.{RuleAt, weightBefore, weightAfter, keeps, changeAt, changes, changesAt, firstFrom, nextChange, keepsIn, allFrom, shareOf}
+use Rattle.leaf.specs.Code.{RuleAt, weightBefore, weightAfter, keeps, changeAt, changes, changesAt, firstFrom, nextChange}
+use Rattle.leaf.specs.Code.{keepsIn, allFrom, fixedAt, shareOf}
 
 -- ---- The rules
 
@@ -282,22 +284,33 @@ known-is F k w p ha hp h ho =
       atMostOne = ho;
     }
 
+-- n is the number of fixed agents of state s; t says whether it is an input.
+module _ (z : Sizes) (states : List ℕ) (s n : ℕ) (e : n ≡ fixedOf z states s) where
+  pub fixed-none : n ≤ 0 → record { agents = 0; only = false } ≡ fixedAt z states s
+  fixed-none l = let z : n ≡ 0 = omega arith in rw (← e, z)
+
+  pub fixed-some : (t : Bool) → 0 < n → t ≡ isInput z states s → record { agents = n; only = not t } ≡ fixedAt z states s
+  fixed-some t l h = rw (← e, lt-ltb 0 n l, h)
+
+pub ruleset fixing = (fixed-none, fixed-some)
+
 -- Both weights are 0, or the share is that of the two weights.
-module _ (by : Closing) (z : Sizes) (leaves : List ℕ) (l : ℕ) (a b c : Known) (s x y : ℕ) (vx : Value 65536 (endWeight z leaves l 0 s) x)
+module _ (by : Closing) (z : Sizes) (states leaves : List ℕ) (l : ℕ) (a b c : Known) (s x y : ℕ) (vx : Value 65536 (endWeight z leaves l 0 s) x)
     (vy : Value 65536 (endWeight z leaves l 1 s) y) where
-  pub nothing-shared : eqb x 10000 && eqb y 10000 ≡ true → ShareIs 68719476736 (shareOf by z leaves l a b c s) (share true 0 0)
+  pub nothing-shared : eqb x 10000 && eqb y 10000 ≡ true → ShareIs 68719476736 (shareOf by z states leaves l a b c s) (share true 0 0)
   unfolding shareOf
   nothing-shared h =
       let t = and-elim (eqb x 10000) (eqb y 10000) h in
       record {
-        is = rw (← vx .is, ← vy .is, eqb-true x 10000 (t .0), eqb-true y 10000 (t .1), share-none by a b c s);
+        is = rw (← vx .is, ← vy .is, eqb-true x 10000 (t .0), eqb-true y 10000 (t .1), share-none by (fixedAt z states s) a b c s);
         gains-most = omega arith;
         losses-most = omega arith;
       }
 
-  pub shared : (r : Share) → ShareIs 68719476736 (shareBy by a b c s x y) r → ShareIs 68719476736 (shareOf by z leaves l a b c s) r
+  pub shared : (f : Fixed) (r : Share) → f ≡ fixedAt z states s → ShareIs 68719476736 (shareBy by f a b c s x y) r
+      → ShareIs 68719476736 (shareOf by z states leaves l a b c s) r
   unfolding shareOf
-  shared r h = rw (← vx .is, ← vy .is) h
+  shared f r e h = rw (← vx .is, ← vy .is, ← e) h
 
 pub ruleset sharing = (nothing-shared, shared)
 
@@ -358,7 +371,7 @@ module _ (by : Closing) (z : Sizes) (states rules leaves : List ℕ) (l : ℕ) (
 
   module _ (a b c : Known) (ka : KnownAt F 0 a) (kb : KnownAt F 1 b) (kc : KnownAt F 2 c) where
     abbrev shares : ℕ → Share
-    shares = shareOf by z leaves l a b c
+    shares = shareOf by z states leaves l a b c
 
     in-shares : closes
         ≡ (kept 0 && kept 1)

@@ -1,4 +1,4 @@
--- `machine::start_in` meets its contract: the counts, then the first state that is no input and is occupied.
+-- `machine::start_in` meets its contract: the counts, then the first state that is against the start rule.
 use Rattle.machine.specs.Calls.{startAnswer}
 use Rattle.machine.specs.Code.Laws.{counts-refused, counts-passed, start-unfit, start-fit}
 use borrow.Author.Needs.{needs}
@@ -12,17 +12,11 @@ returns : tie.Need-returns
 unfolding startAnswer
 returns c = search (counts-refused, needs)
 
-occupied-requires : tie.Need-occupied-requires
-occupied-requires c κs = search needs
-
 states-section-requires : tie.Need-states-section-requires
 states-section-requires c κs = search needs
 
-flag-set-requires : tie.Need-flag-set-requires
-flag-set-requires c κs = search needs
-
-without-requires : tie.Need-without-requires
-without-requires c κs = search needs
+unfit-states-requires : tie.Need-unfit-states-requires
+unfit-states-requires c κs = search needs
 
 lowest-requires : tie.Need-lowest-requires
 lowest-requires c κs = search needs
@@ -41,10 +35,8 @@ start-in-spec =
     (tie.spec
     counts-fault-requires
     returns
-    occupied-requires
     states-section-requires
-    flag-set-requires
-    without-requires
+    unfit-states-requires
     lowest-requires
     returns-2
     returns-3)

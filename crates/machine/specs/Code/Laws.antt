@@ -1,7 +1,7 @@
 -- The code's returns follow the definitions of the calls. Assumes nothing.
 use mathlib.Core.Path.{_≡_, refl, sym, ap, _∙_}
-use mathlib.Core.Bool.{Bool, true, false, not, cond, _&&_, Bool·beq, and-false, and-comm}
-use mathlib.Core.List.{List}
+use mathlib.Core.Bool.{Bool, true, false, not, cond, _&&_, Bool·beq, and-false}
+use mathlib.Core.List.{List, []}
 use mathlib.Core.Logic.{by-cases}
 use Prim.Native.Nat.{ℕ, _≤_, _<_}
 use native.Mathlib.Decide.{decLt}
@@ -18,12 +18,12 @@ use Rattle.theory.specs.Ladder.{Layers, OrderedPartition, lowest, enabledIn}
 use Rattle.theory.specs.Ladder.Active.{enabledIn-elim}
 use Rattle.theory.specs.Machine.{Call, Reply, step, run, stepped, refused, admitted, admit, chosen, reply, countsAfter, stepReply, runReply}
 use Rattle.theory.specs.Machine.Laws.{adds-on, adds-off, reply-step, step-no-rule, step-not-enabled, step-fires, chosen-fires}
-use Rattle.bits.specs.Code.{amongOf, withoutOf, subsetOf, disjointOf, lowestOf}
+use Rattle.bits.specs.Code.{amongOf, subsetOf, disjointOf, lowestOf}
 use Rattle.bits.specs.Code.Laws.{all-wider}
 use Rattle.format.specs.Format.{sectionsOf, protocolOf, layersOf, protocolIn, layersIn}
 use Rattle.format.specs.Code.{hasFlag}
 use Rattle.format.specs.declared.Header.{Header}
-use Rattle.format.specs.declared.Flag.the-variants.{Output, Input}
+use Rattle.format.specs.declared.Flag.the-variants.{Output}
 use Rattle.shape.specs.Shape.{refusal, shapeOf}
 use Rattle.shape.specs.Shape.Laws.{sound-then, sound-else}
 use Rattle.shape.specs.Code.{refusalOf}
@@ -112,29 +112,26 @@ imp-beq-true true true = refl
 imp-beq-true true false = refl
 imp-beq-true false y = refl
 
-module _ (b : List ℕ) (h : Header) (c states : List ℕ) (sound : SoundShape b h) (here : states ≡ sectionsOf b h .states)
-    (occupied : ℕ) (ho : member occupied ≡ amongOf (h .sizes .states) (isOccupied c)) where
+module _ (b : List ℕ) (h : Header) (c states : List ℕ) (sound : SoundShape b h) (here : states ≡ sectionsOf b h .states) where
   small : h .sizes .states ≤ 64
   small = sound .limits .states-most
 
-  occupied-below : (s : ℕ) → s < h .sizes .states → member occupied s ≡ ltb 0 (count c s)
-  occupied-below s l = ap (λ A. A s) ho ∙ among-below (isOccupied c) (h .sizes .states) s small l
+  -- The word w has the states that pass the test f.
+  module _ (w : ℕ) (f : ℕ → Bool) (hw : member w ≡ amongOf (h .sizes .states) f) where
+    word-below : (s : ℕ) → s < h .sizes .states → member w s ≡ f s
+    word-below s l = ap (λ A. A s) hw ∙ among-below f (h .sizes .states) s small l
 
-  occupied-above : (s : ℕ) → h .sizes .states ≤ s → member occupied s ≡ false
-  occupied-above s l = ap (λ A. A s) ho ∙ among-above (isOccupied c) (h .sizes .states) s l
+    word-above : (s : ℕ) → h .sizes .states ≤ s → member w s ≡ false
+    word-above s l = ap (λ A. A s) hw ∙ among-above f (h .sizes .states) s l
 
-  -- w has the occupied states that are no inputs, and place is the lowest of them.
-  module _ (inputs w place : ℕ) (hi : member inputs ≡ amongOf (h .sizes .states) (hasFlag (h .sizes) states Input))
-      (hw : member w ≡ withoutOf occupied inputs) (hp : place ≡ lowestOf w) where
+  -- w has the states whose counts are against the start rule, and place is the lowest of them.
+  module _ (w place : ℕ) (hw : member w ≡ amongOf (h .sizes .states) (unfit (protocolOf (h .sizes) states []) c)) (hp : place ≡ lowestOf w) where
     unfit-below : (s : ℕ) → s < h .sizes .states → member w s ≡ unfit (protocolIn b h) c s
     unfolding unfit
-    unfit-below s l =
-        let input : member inputs s ≡ protocolIn b h .input s =
-        ap (λ A. A s) hi ∙ among-below (hasFlag (h .sizes) states Input) (h .sizes .states) s small l ∙ ap (λ x. hasFlag (h .sizes) x Input s) here in
-        ap (λ A. A s) hw ∙ rw (occupied-below s l, input) (and-comm (ltb 0 (count c s)) (not (protocolIn b h .input s)))
+    unfit-below s l = word-below w _ hw s l ∙ ap (λ x. unfit (protocolOf (h .sizes) x []) c s) here
 
     unfit-above : (s : ℕ) → h .sizes .states ≤ s → member w s ≡ false
-    unfit-above s l = ap (λ A. A s) hw ∙ rw (occupied-above s l)
+    unfit-above = word-above w _ hw
 
     fit-before : (s : ℕ) → s < place → s < h .sizes .states → unfit (protocolIn b h) c s ≡ false
     fit-before s l m = sym (unfit-below s m) ∙ first-lowest 64 (member w) s (omega (arith, hp))
@@ -169,10 +166,17 @@ module _ (b : List ℕ) (h : Header) (c states : List ℕ) (sound : SoundShape b
 
   -- ---- The verdict
 
-  module _ (outputs : ℕ) (hv : member outputs ≡ amongOf (h .sizes .states) (hasFlag (h .sizes) states Output)) where
+  module _ (occupied outputs : ℕ) (ho : member occupied ≡ amongOf (h .sizes .states) (isOccupied c))
+      (hv : member outputs ≡ amongOf (h .sizes .states) (hasFlag (h .sizes) states Output)) where
+    occupied-below : (s : ℕ) → s < h .sizes .states → member occupied s ≡ ltb 0 (count c s)
+    occupied-below = word-below occupied _ ho
+
+    occupied-above : (s : ℕ) → h .sizes .states ≤ s → member occupied s ≡ false
+    occupied-above = word-above occupied _ ho
+
     output-below : (s : ℕ) → s < h .sizes .states → member outputs s ≡ protocolIn b h .output s
     output-below s l =
-        ap (λ A. A s) hv ∙ among-below (hasFlag (h .sizes) states Output) (h .sizes .states) s small l ∙ ap (λ x. hasFlag (h .sizes) x Output s) here
+        word-below outputs _ hv s l ∙ ap (λ x. hasFlag (h .sizes) x Output s) here
 
     shows-0 : disjointOf occupied outputs ≡ shows (protocolIn b h) false c
     unfolding shows

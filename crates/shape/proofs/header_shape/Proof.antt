@@ -13,6 +13,12 @@ returns : tie.Need-returns
 unfolding headerShape
 returns c = search (judged, only-hit, only-pass, needs)
 
+cast-version-fault : tie.Need-cast-version-fault
+cast-version-fault c = search needs
+
+version-fault-requires : tie.Need-version-fault-requires
+version-fault-requires c κs = search needs
+
 returns-2 : tie.Need-returns-2
 unfolding headerShape
 returns-2 c = search (judged, only-hit, only-pass, needs)
@@ -56,6 +62,8 @@ header-shape-spec =
     (tie.spec
     length-fault-requires
     returns
+    cast-version-fault
+    version-fault-requires
     returns-2
     count-fault-requires
     returns-3

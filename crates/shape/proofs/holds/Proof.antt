@@ -9,11 +9,14 @@ enum-told c = search needs
 state-flags-requires : tie.Need-state-flags-requires
 state-flags-requires c κs = search needs
 
+fixed-agents-requires : tie.Need-fixed-agents-requires
+fixed-agents-requires c κs = search needs
+
 enum-told-2 : tie.Need-enum-told-2
 enum-told-2 c = search needs
 
-state-flags-requires-2 : tie.Need-state-flags-requires-2
-state-flags-requires-2 c κs = search needs
+is-input-requires : tie.Need-is-input-requires
+is-input-requires c κs = search needs
 
 enum-told-3 : tie.Need-enum-told-3
 enum-told-3 c = search needs
@@ -37,7 +40,7 @@ layer-weight-requires : tie.Need-layer-weight-requires
 layer-weight-requires c κs = search needs
 
 returns : tie.Need-returns
-returns c = rw (c .before .enum-told .given .1) (cc)
+returns c = rw (c .before .before .enum-told .given .1) (cc)
 
 returns-2 : tie.Need-returns-2
 returns-2 c = rw (c .before .enum-told2 .given .1) (cc)
@@ -57,8 +60,9 @@ holds-spec =
     (tie.spec
     enum-told
     state-flags-requires
+    fixed-agents-requires
     enum-told-2
-    state-flags-requires-2
+    is-input-requires
     enum-told-3
     rule-bad-requires
     enum-known-t

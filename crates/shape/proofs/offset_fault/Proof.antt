@@ -1,10 +1,10 @@
--- `shape::offset_fault` meets its contract: by what the products and the five tests ensure.
+-- `shape::offset_fault` meets its contract: by what the lengths and the five tests ensure.
 use borrow.Author.Needs.{needs}
 use Rattle.shape.proofs.offset_fault.Statement.{statement}
 use Rattle.shape.proofs.offset_fault.Tie as tie
 
-cast-misplaced : tie.Need-cast-misplaced
-cast-misplaced c = search needs
+states-length-requires : tie.Need-states-length-requires
+states-length-requires c κs = search needs
 
 misplaced-requires : tie.Need-misplaced-requires
 misplaced-requires c κs = search needs
@@ -49,7 +49,7 @@ pub offset-fault-spec : {M : Type 1} → statement M
 offset-fault-spec =
     tie.close
     (tie.spec
-    cast-misplaced
+    states-length-requires
     misplaced-requires
     product-requires
     misplaced-requires-2

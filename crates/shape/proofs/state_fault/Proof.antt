@@ -1,5 +1,5 @@
 -- `shape::state_fault` meets its contract: each return is one case of the test.
-use Rattle.shape.specs.Shape.Laws.{first-other-bits, first-beyond, first-no-input}
+use Rattle.shape.specs.Shape.Laws.{first-bad-record, first-beyond, first-no-input}
 use borrow.Author.Needs.{needs}
 use Rattle.shape.proofs.state_fault.Statement.{statement}
 use Rattle.shape.proofs.state_fault.Tie as tie
@@ -11,7 +11,7 @@ cast-result : tie.Need-cast-result
 cast-result c = search needs
 
 returns : tie.Need-returns
-returns c = search (first-other-bits, needs)
+returns c = search (first-bad-record, needs)
 
 first-requires-2 : tie.Need-first-requires-2
 first-requires-2 c κs = search needs

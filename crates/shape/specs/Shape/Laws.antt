@@ -19,7 +19,7 @@ use Rattle.format.specs.declared.Header.{Header}
 use Rattle.format.specs.declared.Rule.{Rule}
 use Rattle.theory.specs.Judge.{judge}
 use Rattle.theory.specs.Judge.Laws.{judge-map}
-use Rattle.shape.specs.Shape.{refusal, nth, otherBits, inLayer, tooLarge, badState, badFields, badRule, badLayer}
+use Rattle.shape.specs.Shape.{refusal, nth, badRecord, inLayer, tooLarge, badState, badFields, badRule, badLayer}
 use Rattle.shape.specs.Shape.{sectionTests, byShape}
 use Rattle.shape.specs.Code.{testedOf, asShape, refusalOf}
 use Rattle.shape.specs.declared.Refusal.{Refusal}
@@ -90,26 +90,26 @@ past-start k n m h =
 -- ---- The state test
 
 module _ (z : Sizes) (states : List ℕ) where
-  bad-below : (s : ℕ) → s < z .states → badState z states s ≡ otherBits z states s
+  bad-below : (s : ℕ) → s < z .states → badState z states s ≡ badRecord z states s
   unfolding badState
-  bad-below s l = rw (lt-ltb s (z .states) l, ne-eqb s (z .states) (λ e. omega arith)) (or-false (otherBits z states s))
+  bad-below s l = rw (lt-ltb s (z .states) l, ne-eqb s (z .states) (λ e. omega arith)) (or-false (badRecord z states s))
 
   bad-end : badState z states (z .states) ≡ not (anyBelow (z .states) (isInput z states))
   unfolding badState
   bad-end = rw (le-ltb (z .states) (z .states) (omega arith), eq-eqb (z .states) (z .states) refl)
 
-  -- s is the first state with other bits set.
-  module _ (s : ℕ) (e : s ≡ firstBelow (z .states) (otherBits z states)) where
-    pub first-other-bits : s < z .states → s ≡ firstBelow (z .states + 1) (badState z states)
-    first-other-bits l =
+  -- s is the first state with a bad record.
+  module _ (s : ℕ) (e : s ≡ firstBelow (z .states) (badRecord z states)) where
+    pub first-bad-record : s < z .states → s ≡ firstBelow (z .states + 1) (badState z states)
+    first-bad-record l =
         sym (first-is (z .states + 1) (badState z states) s (omega arith)
-        (λ k m. bad-below k (omega arith) ∙ first-lowest (z .states) (otherBits z states) k (omega arith))
-        (λ _. bad-below s l ∙ ap (otherBits z states) e ∙ first-passes (z .states) (otherBits z states) (omega arith)))
+        (λ k m. bad-below k (omega arith) ∙ first-lowest (z .states) (badRecord z states) k (omega arith))
+        (λ _. bad-below s l ∙ ap (badRecord z states) e ∙ first-passes (z .states) (badRecord z states) (omega arith)))
 
     -- There is none, and i is the first input state.
     module _ (i : ℕ) (d : i ≡ firstBelow (z .states) (isInput z states)) (none : z .states ≤ s) where
       clear : (k : ℕ) → k < z .states → badState z states k ≡ false
-      clear k l = bad-below k l ∙ first-lowest (z .states) (otherBits z states) k (omega arith)
+      clear k l = bad-below k l ∙ first-lowest (z .states) (badRecord z states) k (omega arith)
 
       at-end : (t : Bool) → ltb i (z .states) ≡ t → badState z states (z .states) ≡ not t
       at-end t h = bad-end ∙ ap not (sym (first-any (z .states) (isInput z states)) ∙ ap (λ n. ltb n (z .states)) (sym d) ∙ h)

@@ -2,32 +2,41 @@
 use mathlib.Core.Path.{_≡_, refl, sym, ap, _∙_, subst}
 use mathlib.Core.Bool.{Bool, true, false, not, _||_, _&&_}
 use mathlib.Core.List.{List}
-use mathlib.Core.Logic.{⊎-elim}
+use mathlib.Core.Logic.{_↔_, ⊎-elim, ⊎-map}
 use Prim.Native.Nat.{ℕ, zero, suc, _+_, _≤_, _<_}
 use native.Mathlib.Omega.{arith}
 use borrow.Author.Tests.{ltb-true, ltb-false, leb-false, eqb-true, eqb-false, eq-eqb, lt-ltb, le-ltb, lt-leb, not-true, not-false}
 use lib.Dec.{leb, ltb, eqb}
 use lib.ListN.{length, length-take, length-drop}
-use Rattle.theory.specs.Bool.Laws.{not-both, is-true, is-false, and-elim, and-intro, and-fails, or-fails, or-none}
+use Rattle.theory.specs.Bool.Laws.{not-both, is-true, is-false, and-elim, and-intro, and-fails, or-fails, or-none, or-left, or-right, or-elim}
 use Rattle.theory.specs.Below.{anyBelow, Clear}
 use Rattle.theory.specs.Below.Laws.{any-elim, any-intro, any-fails}
 use Rattle.theory.specs.Protocol.{WellFormed}
 use Rattle.theory.specs.Ladder.{OrderedPartition}
 use Rattle.format.specs.Bytes.{section}
-use Rattle.format.specs.Format.{headerOf, Sections, sectionsOf, flags, isInput, ruleP, ruleQ, ruleP′, ruleQ′, ruleLayer, ruleOf, layerWeight}
+use Rattle.format.specs.Format.{headerOf, Sections, sectionsOf, flags, isInput, fixedOf, ruleP, ruleQ, ruleP′, ruleQ′, ruleLayer, ruleOf, layerWeight}
 use Rattle.format.specs.Format.{protocolOf, layersOf}
 use Rattle.format.specs.declared.Sizes.{Sizes}
 use Rattle.format.specs.declared.Header.{Header}
 use Rattle.theory.specs.Judge.{Passes}
 use Rattle.theory.specs.Judge.Laws.{judge-passes, passes-judge}
-use Rattle.shape.specs.Shape.{refusal, countFaults, offsetFaults, nth, otherBits, sameBefore, sameRule, inLayer, tooLarge}
+use Rattle.shape.specs.Shape.{refusal, wrongVersion, countFaults, offsetFaults, nth, otherBits, tooManyFixed, badRecord}
+use Rattle.shape.specs.Shape.{sameBefore, sameRule, inLayer, tooLarge}
 use Rattle.shape.specs.Shape.{badState, badRule, repeats, badLayer, sectionTests, shapeTests, headerShape, shapeOf}
 use Rattle.shape.specs.declared.Refusal.{Refusal}
 use Rattle.shape.specs.declared.Shape.{Shape}
 use Rattle.shape.specs.declared.Shape.the-variants.{Sound, Refused}
 use Rattle.shape.specs.Shape.Marks.{pair-same}
-use Rattle.shape.specs.Sound.{Limits, Laid, SoundSections, SoundShape}
+use Rattle.shape.specs.Sound.{IsVersion, Limits, Laid, SoundSections, SoundShape}
 use Rattle.shape.specs.Code.{Lengths}
+
+-- ---- The version
+
+pub version-passes : (v : ℕ) → (wrongVersion v ≡ false) ↔ IsVersion v
+version-passes v = (
+  λ e. ⊎-map (eqb-true v 1) (eqb-true v 2) (or-elim (eqb v 1) (eqb v 2) (not-false _ e)),
+  λ k. ap not (⊎-elim (λ (e : v ≡ 1). or-left _ _ (eq-eqb v 1 e)) (λ (e : v ≡ 2). or-right (eqb v 1) _ (eq-eqb v 2 e)) k),
+)
 
 -- ---- From the tests to the words
 
@@ -69,15 +78,15 @@ module _ (z : Sizes) where
     layers = x .layers
 
     -- Test 5.
-    state-clear : Clear (badState z states) (z .states + 1) → ((s : ℕ) → s < z .states → otherBits z states s ≡ false)
+    state-clear : Clear (badState z states) (z .states + 1) → ((s : ℕ) → s < z .states → badRecord z states s ≡ false)
         × (anyBelow (z .states) (isInput z states) ≡ true)
     unfolding badState
     state-clear clear = (
       λ s l.
-          let f = or-fails (ltb s (z .states) && otherBits z states s) (at-end s) (clear s (omega arith)) in
+          let f = or-fails (ltb s (z .states) && badRecord z states s) (at-end s) (clear s (omega arith)) in
           is-false _ (λ e. not-both (and-intro _ _ (lt-ltb _ _ l) e) (f .0)),
       let n = z .states in
-          let f = or-fails (ltb n n && otherBits z states n) (at-end n) (clear n (omega arith)) in
+          let f = or-fails (ltb n n && badRecord z states n) (at-end n) (clear n (omega arith)) in
           is-true _ (λ e. not-both (and-intro _ _ (eq-eqb n n refl) (ap not e)) (f .1)),
     )
       where
@@ -153,7 +162,8 @@ module _ (z : Sizes) where
         let inputs = state-clear t5 in
         let rule : (r : ℕ) → r < z .rules → SoundRule r = λ r l. rule-clear r (t6 r l) in
         record {
-          state-bits = λ s l. ltb-false _ _ (inputs .0 s l);
+          state-bits = λ s l. ltb-false _ _ (or-fails (otherBits z states s) (tooManyFixed z states s) (inputs .0 s l) .0);
+          fixed-most = λ s l. ltb-false _ _ (or-fails (otherBits z states s) (tooManyFixed z states s) (inputs .0 s l) .1);
           formed = record {
             p-lt = λ r l. rule r l .p-lt;
             q-lt = λ r l. rule r l .q-lt;
@@ -185,8 +195,11 @@ module _ (z : Sizes) where
         t5 : Clear (badState z states) (z .states + 1)
         t5 s l =
             or-none _ _
-            (is-false (ltb s (z .states) && otherBits z states s)
-            (λ e. let f = and-elim (ltb s (z .states)) _ e in omega (arith, ltb-true 3 (flags z states s) (f .1), g .state-bits s (ltb-true _ _ (f .0)))))
+            (is-false (ltb s (z .states) && badRecord z states s)
+            (λ e.
+            let f = and-elim (ltb s (z .states)) _ e in
+            let l = ltb-true _ _ (f .0) in
+            not-both (f .1) (or-none _ _ (le-ltb _ _ (g .state-bits s l)) (le-ltb _ _ (g .fixed-most s l)))))
             (is-false _
             (λ e.
             let f = and-elim (eqb s (z .states)) (not (anyBelow (z .states) (isInput z states))) e in
@@ -247,7 +260,7 @@ module _ (b : List ℕ) (h : Header) where
   passes-sound : h ≡ headerOf b → Passes (shapeTests b h) → SoundShape b h
   passes-sound e (t1, (t2, (t3, (t4, rest)))) = record {
     header = e;
-    version = eqb-true _ _ (not-false _ (t2 0 (omega arith)));
+    version = version-passes (h .sizes .version) .0 (t2 0 (omega arith));
     limits = limits (h .sizes) t3;
     laid = laid (t1 0 (omega arith)) t4;
     sections = sound-sections (h .sizes) (sectionsOf b h) rest;
@@ -270,8 +283,8 @@ module _ (b : List ℕ) (h : Header) where
           or-none _ _ (le-ltb (length b) 24 (omega (arith, D .whole, D .total, D .leaves, D .nodes, D .layers, D .rules, D .states)))
           (ap not (eq-eqb _ _ (D .whole)))
 
-      t2 : (k : ℕ) → k < 1 → not (eqb (h .sizes .version) 1) ≡ false
-      t2 k l = ap not (eq-eqb _ _ (g .version))
+      t2 : (k : ℕ) → k < 1 → wrongVersion (z .version) ≡ false
+      t2 k l = version-passes (z .version) .1 (g .version)
 
       t3 : Clear (nth (countFaults z)) 5
       t3 zero l = or-none _ _ (le-ltb _ _ (L .states-least)) (le-ltb _ _ (L .states-most))

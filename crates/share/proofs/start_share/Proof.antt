@@ -1,24 +1,20 @@
--- Each return is a case of the definition.
+-- The state joins as often as the definition says.
 use borrow.Author.Needs.{needs}
+use Rattle.share.specs.Code.Laws.{sharing}
 use Rattle.share.proofs.start_share.Statement.{statement}
 use Rattle.share.proofs.start_share.Tie as tie
-use Rattle.share.specs.Code.Laws.{sharing}
+
+times-requires : tie.Need-times-requires
+times-requires c κs = search needs
 
 has-requires : tie.Need-has-requires
 has-requires c κs = search needs
 
+joined-requires : tie.Need-joined-requires
+joined-requires c κs = search needs
+
 returns : tie.Need-returns
 returns c = search (sharing, needs)
 
-has-requires-2 : tie.Need-has-requires-2
-has-requires-2 c κs = search needs
-
-excess-requires : tie.Need-excess-requires
-excess-requires c κs = search needs
-
-returns-2 : tie.Need-returns-2
-returns-2 c = search (sharing, needs)
-
 pub start-share-spec : {M : Type 1} → statement M
-start-share-spec =
-    tie.close (tie.spec has-requires returns has-requires-2 excess-requires returns-2)
+start-share-spec = tie.close (tie.spec times-requires has-requires joined-requires returns)

@@ -12,8 +12,11 @@ add-t7 c = search needs
 add-t8 : tie.Need-add-t8
 add-t8 c = search needs
 
+add-t9 : tie.Need-add-t9
+add-t9 c = search needs
+
 returns : tie.Need-returns
 returns c = search needs
 
 pub together-spec : {M : Type 1} → statement M
-together-spec = tie.close (tie.spec add-t6 add-t7 add-t8 returns)
+together-spec = tie.close (tie.spec add-t6 add-t7 add-t8 add-t9 returns)

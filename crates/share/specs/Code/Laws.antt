@@ -1,25 +1,26 @@
 -- The parts of the leaf rule and of the remainder rule put together. Assumes nothing.
 use mathlib.Core.Path.{_≡_, refl, sym, ap, _∙_, fun-ext}
-use mathlib.Core.Bool.{Bool, true, false, not, _&&_, _||_, and-assoc, and-false, or-true, or-false}
+use mathlib.Core.Bool.{Bool, true, false, not, _&&_, _||_, and-assoc, and-false, or-true}
 use Prim.Native.Nat.{ℕ, zero, suc, _+_, _-_, _*_, _%_, _≤_, _<_}
-use native.Mathlib.Nat.{add-zero, mul-zero, zero-mod, mod-zero}
+use native.Mathlib.Nat.{mul-zero, mul-le-mul, zero-mod, mod-zero}
 use native.Mathlib.Omega.{arith}
 use lib.Dec.{leb, ltb, eqb}
 use borrow.Author.Tests.{lt-ltb, le-ltb, leb-true, leb-false, le-leb, lt-leb, eq-eqb, ne-eqb}
 use Rattle.theory.specs.Bool.{member, bit}
 use Rattle.theory.specs.Bool.Laws.{by-test}
 use Rattle.theory.specs.Below.{allBelow, sumBelow}
-use Rattle.theory.specs.Below.Laws.{sum-add, sum-zero}
-use Rattle.theory.specs.Protocol.{Protocol}
+use Rattle.theory.specs.Below.Laws.{sum-add}
+use Rattle.theory.specs.Protocol.{Protocol, onlyFixed}
 use Rattle.theory.specs.Facts.{Facts}
-use Rattle.theory.specs.Leaf.{total, nonIncreasing, startFits, spare, endFits, surplus, shortfall, leafCloses}
-use Rattle.theory.specs.Remainder.{congruent, exactlyOne, conserved, startVanishes, endVanishes, excess, deficit, remainderCloses}
+use Rattle.theory.specs.Leaf.{extra, spare, nonIncreasing, startFits, times, endFits, surplus, shortfall, leafCloses}
+use Rattle.theory.specs.Remainder.{congruent, exactlyOne, known, conserved, startVanishes, endVanishes, excess, deficit, remainderCloses}
 use Rattle.theory.specs.Remainder.Congruence.{congruent-apart}
 use Rattle.format.specs.Code.{Value}
-use Rattle.share.specs.Code.{closesBy, keptBy, relatesBy, KnownAt, startShare, endShare, startRemainder, endRemainder}
-use Rattle.share.specs.Code.{sumOf, shareBy, ShareIs}
+use Rattle.share.specs.Code.{closesBy, keptBy, relatesBy, KnownAt, fixedIn, joinedOf, timesOf, knownOf, startShare, endShare}
+use Rattle.share.specs.Code.{startRemainder, endRemainder, sumOf, shareBy, ShareIs}
 use Rattle.share.specs.declared.Closing.{Closing}
 use Rattle.share.specs.declared.Closing.the-variants.{BySums, ByRemainders}
+use Rattle.share.specs.declared.Fixed.{Fixed}
 use Rattle.share.specs.declared.Known.{Known}
 use Rattle.share.specs.declared.Share.{Share}
 
@@ -97,25 +98,61 @@ nothing : (b : Bool) (m n : ℕ) → m ≤ n → bit b * (m - n) ≡ 0
 nothing true m n h = omega arith
 nothing false m n h = omega arith
 
-module _ (k : Known) (s y : ℕ) where
-  pub start-over : (m : Bool) → 20000 < y → m ≡ member (k .absent) s → ShareIs (20000 + y) (startShare k s y) (share m 0 0)
-  unfolding startShare
-  start-over m h e =
-      record {
-        is = rw (nothing (member (k .present) s) 20000 y (omega arith), lt-leb y 20000 h, ← e) (ap (λ b. share b 0 0) (sym (or-false m)));
-        gains-most = omega arith;
-        losses-most = omega arith;
-      }
+-- A state that joins a sum n times.
+module _ (t : Bool) (n y : ℕ) (f : n < 65536) (g : y < 131072) where
+  pub joined-small : (m : ℕ) → m < 131072 → n * m ≤ 8589934592
+  joined-small m l =
+      let n′ : n ≤ 65536 = omega arith in
+      let m′ : m ≤ 131072 = omega arith in
+      let le : n * m ≤ 65536 * 131072 = mul-le-mul n′ m′ in
+      omega arith
 
-  pub start-is : (m : Bool) (x : ℕ) → y ≤ 20000 → m ≡ member (k .present) s → Value (20000 + 1) (bit m * (20000 - y)) x
-      → ShareIs (20000 + y) (startShare k s y) (share true x 0)
+  pub joined-over : 20000 < y → ShareIs 8589934592 (joinedOf t n y) (share t 0 (n * (y - 20000)))
+  joined-over h =
+      let e : 20000 - y ≡ 0 = omega arith in
+      record { is = rw (e, mul-zero n); gains-most = omega arith; losses-most = joined-small (y - 20000) (omega arith) }
+
+  pub joined-under : y ≤ 20000 → ShareIs 8589934592 (joinedOf t n y) (share t (n * (20000 - y)) 0)
+  joined-under h =
+      let e : y - 20000 ≡ 0 = omega arith in
+      record { is = rw (e, mul-zero n); gains-most = joined-small (20000 - y) (omega arith); losses-most = omega arith }
+
+pub ruleset joining = (joined-over, joined-under)
+
+-- How often a state joins, by its fixed agents.
+module _ (k : Known) (f : Fixed) (s : ℕ) where
+  pub times-none : (t : Bool) → f .agents ≤ 0 → t ≡ member (k .present) s → t ≡ false → 0 ≡ timesOf k f s
+  unfolding timesOf
+  times-none t l h e = rw (le-ltb 0 (f .agents) l, ← h, e)
+
+  pub times-once : (t : Bool) → f .agents ≤ 0 → t ≡ member (k .present) s → t ≡ true → 1 ≡ timesOf k f s
+  unfolding timesOf
+  times-once t l h e = rw (le-ltb 0 (f .agents) l, ← h, e)
+
+  pub times-absent : (t : Bool) → 0 < f .agents → t ≡ member (k .absent) s → t ≡ true → 0 ≡ timesOf k f s
+  unfolding timesOf
+  times-absent t l h e = rw (lt-ltb 0 (f .agents) l, ← h, e) (omega arith)
+
+  pub times-fixed : (t : Bool) → 0 < f .agents → t ≡ member (k .absent) s → t ≡ false → f .agents ≡ timesOf k f s
+  unfolding timesOf
+  times-fixed t l h e = rw (lt-ltb 0 (f .agents) l, ← h, e) (omega arith)
+
+  pub known-none : (t : Bool) → t ≡ member (k .absent) s → not t && f .only ≡ false → 0 ≡ knownOf k f s
+  unfolding knownOf
+  known-none t h e = rw (← h, e) (omega arith)
+
+  pub known-fixed : (t : Bool) → t ≡ member (k .absent) s → not t && f .only ≡ true → f .agents ≡ knownOf k f s
+  unfolding knownOf
+  known-fixed t h e = rw (← h, e) (omega arith)
+
+pub ruleset counting = (times-none, times-once, times-absent, times-fixed, known-none, known-fixed)
+
+module _ (k : Known) (s y : ℕ) where
+  -- The state joins n times, and its share is x.
+  pub start-is : (f : Fixed) (b n : ℕ) (t : Bool) (x : Share) → t ≡ member (k .absent) s → n ≡ timesOf k f s
+      → ShareIs b (joinedOf (t || (f .only || leb y 20000)) n y) x → ShareIs b (startShare k f s y) x
   unfolding startShare
-  start-is m x h e v =
-      record {
-        is = rw (le-leb y 20000 h, or-true (member (k .absent) s), ← e, v .is);
-        gains-most = omega (arith, v .small);
-        losses-most = omega arith;
-      }
+  start-is f b n t x ht hn h = rw (← ht, ← hn) h
 
   pub end-over : (m : Bool) (x : ℕ) → 10000 ≤ y → m ≡ member (k .present) s → Value (y + 1) (bit m * (y - 10000)) x
       → ShareIs (20000 + y) (endShare k s y) (share true x 0)
@@ -155,10 +192,10 @@ module _ (k : Known) (s y : ℕ) where
         losses-most = omega arith;
       }
 
-  pub remainder-start : (m : ℕ) (t v : Bool) → t ≡ member (k .absent) s → v ≡ congruent m y 20000
-      → ShareIs (20000 + y) (startRemainder m k s y) (share (t || v) 0 0)
+  pub remainder-start : (f : Fixed) (b m n : ℕ) (t v : Bool) (x : Share) → t ≡ member (k .absent) s → v ≡ congruent m y 20000 → n ≡ knownOf k f s
+      → ShareIs b (joinedOf (t || (f .only || v)) n y) x → ShareIs b (startRemainder m k f s y) x
   unfolding startRemainder
-  remainder-start m t v ht hv = record { is = rw (← ht, ← hv); gains-most = omega arith; losses-most = omega arith }
+  remainder-start f b m n t v x ht hv hn h = rw (← ht, ← hv, ← hn) h
 
   pub remainder-end : (m g l : ℕ) (t p o v : Bool) → t ≡ member (k .absent) s → p ≡ member (k .present) s → o ≡ member (k .«at_most_one») s
       → v ≡ congruent m y 10000 → Value (y + 1) (bit (p && o) * (y - 10000)) g → Value (10000 + 1) (bit (p && o) * (10000 - y)) l
@@ -171,40 +208,43 @@ module _ (k : Known) (s y : ℕ) where
         losses-most = omega (arith, hl .small);
       }
 
-pub ruleset sharing = (start-over, start-is, end-over, end-absent, end-below, remainder-start, remainder-end)
+pub ruleset sharing = (start-is, end-over, end-absent, end-below, remainder-start, remainder-end)
 
 -- The shares p, q, r at the start and at the ends are put together in t.
-module _ (by : Closing) (a b c : Known) (s x y i j k : ℕ) (p q r t : Share) (h : ShareIs 68719476736 (sumOf p q r) t) where
-  pub share-sums : by ≡ BySums → ShareIs i (startShare a s (x + y)) p → ShareIs j (endShare b s x) q → ShareIs k (endShare c s y) r
-      → ShareIs 68719476736 (shareBy by a b c s x y) t
+module _ (by : Closing) (f : Fixed) (a b c : Known) (s x y i j k : ℕ) (p q r t : Share) (h : ShareIs 68719476736 (sumOf p q r) t) where
+  pub share-sums : by ≡ BySums → ShareIs i (startShare a f s (x + y)) p → ShareIs j (endShare b s x) q → ShareIs k (endShare c s y) r
+      → ShareIs 68719476736 (shareBy by f a b c s x y) t
   unfolding shareBy
   share-sums e hp hq hr = rw (e, ← hp .is, ← hq .is, ← hr .is) h
 
-  pub share-remainders : (m : ℕ) → by ≡ ByRemainders m → ShareIs i (startRemainder m a s (x + y)) p → ShareIs j (endRemainder m b s x) q
-      → ShareIs k (endRemainder m c s y) r → ShareIs 68719476736 (shareBy by a b c s x y) t
+  pub share-remainders : (m : ℕ) → by ≡ ByRemainders m → ShareIs i (startRemainder m a f s (x + y)) p → ShareIs j (endRemainder m b s x) q
+      → ShareIs k (endRemainder m c s y) r → ShareIs 68719476736 (shareBy by f a b c s x y) t
   unfolding shareBy
   share-remainders m e hp hq hr = rw (e, ← hp .is, ← hq .is, ← hr .is) h
 
 pub ruleset summing = (share-sums, share-remainders)
 
 -- A state whose weights are both 0 counts for nothing.
-pub share-none : (by : Closing) (a b c : Known) (s : ℕ) → shareBy by a b c s 10000 10000 ≡ share true 0 0
+pub share-none : (by : Closing) (f : Fixed) (a b c : Known) (s : ℕ) → shareBy by f a b c s 10000 10000 ≡ share true 0 0
 unfolding shareBy startShare endShare startRemainder endRemainder congruent
-share-none BySums a b c s =
+share-none BySums f a b c s =
     rw (
+      or-true (f .only),
       or-true (member (a .absent) s),
       or-true (member (b .absent) s),
       or-true (member (c .absent) s),
-      mul-zero (bit (member (a .present) s)),
+      mul-zero (timesOf a f s),
       mul-zero (bit (member (b .present) s)),
       mul-zero (bit (member (c .present) s)),
       mul-zero (bit (not (member (b .absent) s))),
       mul-zero (bit (not (member (c .absent) s))),
     )
-share-none (ByRemainders m) a b c s =
+share-none (ByRemainders m) f a b c s =
     rw (
       eq-eqb (20000 % m) (20000 % m) refl,
       eq-eqb (10000 % m) (10000 % m) refl,
+      or-true (f .only),
+      mul-zero (knownOf a f s),
       or-true (member (a .absent) s),
       or-true (member (b .absent) s),
       or-true (member (c .absent) s),
@@ -230,17 +270,12 @@ all-three n f g h = all-and n (λ k. f k && g k) h ∙ ap (λ (b : Bool). b && a
 sum-three : (n : ℕ) (f g h : ℕ → ℕ) → sumBelow n (λ k. f k + g k + h k) ≡ sumBelow n f + sumBelow n g + sumBelow n h
 sum-three n f g h = sum-add n (λ k. f k + g k) h ∙ ap (λ (m : ℕ). m + sumBelow n h) (sum-add n f g)
 
--- Shares whose parts are three tests, three numbers and two.
-module _ (n : ℕ) (f : ℕ → Share) where
-  all-allowed : (x y z : ℕ → Bool) → ((s : ℕ) → f s .allowed ≡ x s && y s && z s)
-      → allBelow n (λ s. f s .allowed) ≡ allBelow n x && allBelow n y && allBelow n z
-  all-allowed x y z h = ap (allBelow n) (fun-ext h) ∙ all-three n x y z
+-- A test of three parts, and a number of three.
+all-parts : (n : ℕ) (f x y z : ℕ → Bool) → ((s : ℕ) → f s ≡ x s && y s && z s) → allBelow n f ≡ allBelow n x && allBelow n y && allBelow n z
+all-parts n f x y z h = ap (allBelow n) (fun-ext h) ∙ all-three n x y z
 
-  all-gains : (g h k : ℕ → ℕ) → ((s : ℕ) → f s .gains ≡ g s + h s + k s) → sumBelow n (λ s. f s .gains) ≡ sumBelow n g + sumBelow n h + sumBelow n k
-  all-gains g h k e = ap (sumBelow n) (fun-ext e) ∙ sum-three n g h k
-
-  all-losses : (g h : ℕ → ℕ) → ((s : ℕ) → f s .losses ≡ g s + h s) → sumBelow n (λ s. f s .losses) ≡ sumBelow n g + sumBelow n h
-  all-losses g h e = ap (sumBelow n) (fun-ext e) ∙ sum-add n g h
+sum-parts : (n : ℕ) (f x y z : ℕ → ℕ) → ((s : ℕ) → f s ≡ x s + y s + z s) → sumBelow n f ≡ sumBelow n x + sumBelow n y + sumBelow n z
+sum-parts n f x y z e = ap (sumBelow n) (fun-ext e) ∙ sum-three n x y z
 
 over-not : (m n : ℕ) → ltb m n ≡ not (leb n m)
 over-not m n = by-test (leb n m) (λ e. rw e (le-ltb m n (leb-true n m e))) (λ e. rw e (lt-ltb m n (leb-false n m e)))
@@ -248,7 +283,7 @@ over-not m n = by-test (leb n m) (λ e. rw e (le-ltb m n (leb-true n m e))) (λ 
 -- Whether a leaf closes, by the shares of its states.
 module _ (P : Protocol) (F : Facts) (w : ℕ → ℕ → ℕ) (a b c : Known) (ka : KnownAt F 0 a) (kb : KnownAt F 1 b) (kc : KnownAt F 2 c) where
   abbrev pub shares : Closing → ℕ → Share
-  shares by s = shareBy by a b c s (w 1 s) (w 2 s)
+  shares by s = shareBy by (fixedIn P s) a b c s (w 1 s) (w 2 s)
 
   abbrev allowed : Closing → Bool
   allowed by = allBelow (P .states) (λ s. shares by s .allowed)
@@ -261,20 +296,23 @@ module _ (P : Protocol) (F : Facts) (w : ℕ → ℕ → ℕ) (a b c : Known) (k
 
   by-sums : leafCloses P F w
       ≡ (nonIncreasing P (F .unused 1) (w 1) && nonIncreasing P (F .unused 2) (w 2)) && allowed BySums && ltb (losses BySums) (gains BySums)
-  unfolding leafCloses startFits endFits spare surplus shortfall shareBy startShare endShare
+  unfolding leafCloses startFits times endFits extra spare surplus shortfall shareBy startShare timesOf endShare
   by-sums =
       let runs = nonIncreasing P (F .unused 1) (w 1) && nonIncreasing P (F .unused 2) (w 2) in
       let start = startFits P F 20000 (λ s. w 1 s + w 2 s) in
       let first = endFits P F 1 10000 (w 1) in
       rw (
-        all-allowed (P .states) (shares BySums)
-            (λ s. F .absent 0 s || leb (w 1 s + w 2 s) 20000)
+        all-parts (P .states) (λ s. shares BySums s .allowed)
+            (λ s. F .absent 0 s || (onlyFixed P s || leb (w 1 s + w 2 s) 20000))
             (λ s. F .absent 1 s || (leb 10000 (w 1 s) || F .atMostOne 1 s))
             (λ s. F .absent 2 s || (leb 10000 (w 2 s) || F .atMostOne 2 s))
             (λ s. rw (ka .absent, kb .absent, kb .atMostOne, kc .absent, kc .atMostOne)),
-        all-gains (P .states) (shares BySums) (surplus P F 1 10000 (w 1)) (surplus P F 2 10000 (w 2)) (spare P F 20000 (λ s. w 1 s + w 2 s))
-            (λ s. rw (ka .present, kb .present, kc .present)),
-        all-losses (P .states) (shares BySums) (shortfall P F 1 10000 (w 1)) (shortfall P F 2 10000 (w 2)) (λ s. rw (kb .absent, kc .absent)),
+        sum-parts (P .states) (λ s. shares BySums s .gains) (surplus P F 1 10000 (w 1)) (surplus P F 2 10000 (w 2))
+            (spare (times P F) 20000 (λ s. w 1 s + w 2 s))
+            (λ s. rw (ka .absent, ka .present, kb .present, kc .present)),
+        sum-parts (P .states) (λ s. shares BySums s .losses) (shortfall P F 1 10000 (w 1)) (shortfall P F 2 10000 (w 2))
+            (extra (times P F) 20000 (λ s. w 1 s + w 2 s))
+            (λ s. rw (ka .absent, ka .present, kb .absent, kc .absent)),
         and-assoc runs start first,
         and-assoc runs (start && first) (endFits P F 2 10000 (w 2)),
       )
@@ -282,23 +320,23 @@ module _ (P : Protocol) (F : Facts) (w : ℕ → ℕ → ℕ) (a b c : Known) (k
   by-remainders : (m : ℕ) → remainderCloses P m F w
       ≡ (conserved P m (F .unused 1) (w 1) && conserved P m (F .unused 2) (w 2)) && allowed (ByRemainders m)
       && not (congruent m (gains (ByRemainders m)) (losses (ByRemainders m)))
-  unfolding remainderCloses startVanishes endVanishes excess deficit exactlyOne shareBy startRemainder endRemainder
+  unfolding remainderCloses startVanishes endVanishes extra spare known excess deficit exactlyOne shareBy startRemainder knownOf endRemainder
   by-remainders m =
       let runs = conserved P m (F .unused 1) (w 1) && conserved P m (F .unused 2) (w 2) in
       let start = startVanishes P m F 20000 (λ s. w 1 s + w 2 s) in
       let first = endVanishes P m F 1 10000 (w 1) in
       rw (
-        all-allowed (P .states) (shares (ByRemainders m))
-            (λ s. F .absent 0 s || congruent m (w 1 s + w 2 s) 20000)
+        all-parts (P .states) (λ s. shares (ByRemainders m) s .allowed)
+            (λ s. F .absent 0 s || (onlyFixed P s || congruent m (w 1 s + w 2 s) 20000))
             (λ s. F .absent 1 s || (congruent m (w 1 s) 10000 || exactlyOne F 1 s))
             (λ s. F .absent 2 s || (congruent m (w 2 s) 10000 || exactlyOne F 2 s))
             (λ s. rw (ka .absent, kb .absent, kb .present, kb .atMostOne, kc .absent, kc .present, kc .atMostOne)),
-        all-gains (P .states) (shares (ByRemainders m)) (excess F 1 10000 (w 1)) (excess F 2 10000 (w 2)) (λ _. 0)
-            (λ s. rw (kb .present, kb .atMostOne, kc .present, kc .atMostOne)),
-        sum-zero (P .states),
-        add-zero (total P (excess F 1 10000 (w 1)) + total P (excess F 2 10000 (w 2))),
-        all-losses (P .states) (shares (ByRemainders m)) (deficit F 1 10000 (w 1)) (deficit F 2 10000 (w 2))
-            (λ s. rw (kb .present, kb .atMostOne, kc .present, kc .atMostOne)),
+        sum-parts (P .states) (λ s. shares (ByRemainders m) s .gains) (excess F 1 10000 (w 1)) (excess F 2 10000 (w 2))
+            (spare (known P F) 20000 (λ s. w 1 s + w 2 s))
+            (λ s. rw (ka .absent, kb .present, kb .atMostOne, kc .present, kc .atMostOne)),
+        sum-parts (P .states) (λ s. shares (ByRemainders m) s .losses) (deficit F 1 10000 (w 1)) (deficit F 2 10000 (w 2))
+            (extra (known P F) 20000 (λ s. w 1 s + w 2 s))
+            (λ s. rw (ka .absent, kb .present, kb .atMostOne, kc .present, kc .atMostOne)),
         and-assoc runs start first,
         and-assoc runs (start && first) (endVanishes P m F 2 10000 (w 2)),
       )

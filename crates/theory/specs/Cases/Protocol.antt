@@ -20,11 +20,21 @@ rows xss k = column (getD xss k [])
 
 -- Rule 0 1 to 1 1.
 abbrev pub broadcast : Protocol
-broadcast = record { states = 2; rules = 1; p = λ _. 0; q = λ _. 1; p′ = λ _. 1; q′ = λ _. 1; output = λ s. eqb s 1; input = λ _. true }
+broadcast = record { states = 2; rules = 1; p = λ _. 0; q = λ _. 1; p′ = λ _. 1; q′ = λ _. 1; output = λ s. eqb s 1; input = λ _. true; fixed = λ _. 0 }
 
 -- Rules 0 0 to 0 1 and 0 1 to 1 1.
 abbrev pub twins : Protocol
-twins = record { states = 2; rules = 2; p = λ _. 0; q = column (0 ∷ 1 ∷ []); p′ = column (0 ∷ 1 ∷ []); q′ = λ _. 1; output = λ s. eqb s 1; input = λ _. true }
+twins = record {
+  states = 2;
+  rules = 2;
+  p = λ _. 0;
+  q = column (0 ∷ 1 ∷ []);
+  p′ = column (0 ∷ 1 ∷ []);
+  q′ = λ _. 1;
+  output = λ s. eqb s 1;
+  input = λ _. true;
+  fixed = λ _. 0;
+}
 
 -- Rule 0 0 to 0 1 is enabled at 2 0, not at 1 1.
 pub own-kind : (enabled twins (2 ∷ 0 ∷ []) 0 ≡ true) × (enabled twins (1 ∷ 1 ∷ []) 0 ≡ false)
@@ -52,6 +62,7 @@ majority = record {
   q′ = column (3 ∷ 2 ∷ 3 ∷ 3 ∷ []);
   output = λ s. eqb (column (0 ∷ 1 ∷ 0 ∷ 1 ∷ []) s) 1;
   input = λ s. ltb s 2;
+  fixed = λ _. 0;
 }
 
 -- The verdicts 0 and 1 where all occupied states have that output, else mixed.
@@ -78,6 +89,7 @@ twoOutcomes = record {
   q′ = column (1 ∷ 2 ∷ 2 ∷ []);
   output = λ s. ltb 0 s;
   input = λ s. ltb s 2;
+  fixed = λ _. 0;
 }
 
 -- From 1 1 0 the two rules of the pair 0 1 lead to two terminal configurations, of one output.

@@ -130,6 +130,7 @@ parity = record {
   q′ = column (3 ∷ 2 ∷ 3 ∷ 2 ∷ 3 ∷ []);
   output = λ s. eqb (column (1 ∷ 0 ∷ 1 ∷ 0 ∷ []) s) 1;
   input = eqb 0;
+  fixed = λ _. 0;
 }
 
 -- The first three rules in layer 0, then a layer each.

@@ -48,6 +48,7 @@ catalyst = record {
   q′ = column (1 ∷ 2 ∷ []);
   output = λ s. ltb 0 s;
   input = λ s. ltb s 2;
+  fixed = λ _. 0;
 }
 
 -- The tree of one node, of four leaves. A bad field is refused 12 at node 0, a ground that does not hold 13 at node 0; a
@@ -211,6 +212,7 @@ settled = record {
   q′ = λ _. 0;
   output = λ s. eqb s 0;
   input = λ s. eqb s 0;
+  fixed = λ _. 0;
 }
 
 -- n nodes, of which the first k are siphons, each the child of the one before; the others are of kind 1.
@@ -319,6 +321,7 @@ pairing = record {
   q′ = λ _. 1;
   output = λ _. false;
   input = λ _. true;
+  fixed = λ _. 0;
 }
 
 -- A rule touches what it takes from and what it puts into; there is no rule 1.
@@ -357,7 +360,7 @@ full-set = refl
 -- ---- Leaves
 
 -- Whether a leaf with the weights w closes on the facts F.
-pub closes : Protocol → Facts → (ℕ → ℕ → ℕ) → Bool
+unfoldable pub closes : Protocol → Facts → (ℕ → ℕ → ℕ) → Bool
 unfolding closing
 closes P F w = leafCloses P F w
 

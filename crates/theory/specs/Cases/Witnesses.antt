@@ -11,7 +11,8 @@ use Rattle.theory.specs.Bool.Laws.{is-false, or-none, or-fails}
 use Rattle.theory.specs.Below.{sumBelow}
 use Rattle.theory.specs.Below.Laws.{all-elim}
 use Rattle.theory.specs.Weigh.Laws.{set-none}
-use Rattle.theory.specs.Protocol.{Protocol, count, pre, post, terminal}
+use Rattle.theory.specs.Protocol.{Protocol, count, pre, post, terminal, Start}
+use Rattle.theory.specs.Protocol.Laws.{start-test}
 use Rattle.theory.specs.Cases.Protocol.{column, broadcast, twoOutcomes}
 use Rattle.theory.specs.Cases.Ladder.{oneLayer, castWeights, outcomeWeights}
 use Rattle.theory.specs.Cases.Tables.{formed, partitioned}
@@ -19,6 +20,7 @@ use Rattle.theory.specs.Tree.{takes, puts}
 use Rattle.theory.specs.Tree.Traps.{follows-none}
 use Rattle.theory.specs.Cases.Tree.{tree, noWeights, leafWeights, answerWith, cast, trees, outcomeTree, one-verdict}
 use Rattle.theory.specs.Cases.Remainder.{parity, parityLayers, parityWeights, parityTree, oddOnes, parity-tree}
+use Rattle.theory.specs.Cases.Fixed.{seeded, seededTree, seed, seeds}
 use Rattle.theory.specs.Potential.{Potential}
 use Rattle.theory.specs.Claims.{Certified}
 use Rattle.theory.specs.Unfold.{meeting, laddering, walking}
@@ -76,6 +78,26 @@ parity-certified = record {
   closed = parity-tree .0;
 }
 
+-- And parity with three agents fixed in O, of which there is a start.
+pub seeded-certified : Certified (seeded 3) × Start (seeded 3) (3 ∷ 2 ∷ 0 ∷ 0 ∷ [])
+unfolding answerWith laddering
+seeded-certified = (
+  record {
+    layers = parityLayers;
+    weight = parityWeights;
+    ladder = record {
+      formed = formed (seeded 3) refl refl;
+      partition = partitioned (seeded 3) parityLayers refl refl;
+      lowering-passes = refl;
+      handover-passes = refl;
+    };
+    tree = seededTree;
+    leafWeight = leafWeights seed;
+    closed = seeds .0;
+  },
+  start-test (seeded 3) (3 ∷ 2 ∷ 0 ∷ 0 ∷ []) refl (omega arith) .0 refl,
+)
+
 -- ---- Potential reachability
 
 -- Rules aa to bb and bc to ad.
@@ -89,6 +111,7 @@ borrowed = record {
   q′ = column (1 ∷ 3 ∷ []);
   output = λ _. false;
   input = λ _. true;
+  fixed = λ _. 0;
 }
 
 -- Potentially a c becomes b d by each rule once, but a c is terminal: Strong Consensus speaks of more than Consensus.

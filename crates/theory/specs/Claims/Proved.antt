@@ -10,9 +10,9 @@ use lib.ListN.{length}
 use lib.Dec.{eqb}
 use Rattle.theory.specs.Bool.{imp}
 use Rattle.theory.specs.Bool.Laws.{not-both, is-true, and-elim}
-use Rattle.theory.specs.Protocol.{Protocol, WellFormed, count, size, terminal, tried, Shows, fires, after, meetings}
+use Rattle.theory.specs.Protocol.{Protocol, WellFormed, size, terminal, tried, Shows, StartRule, fires, after, meetings}
 use Rattle.theory.specs.Protocol.Laws.{enabled-pre, pre-enabled, count-fire, fire-moves, terminal-off, not-terminal-on, shows-is, output-is}
-use Rattle.theory.specs.Protocol.Laws.{mixed-is, start-test}
+use Rattle.theory.specs.Protocol.Laws.{mixed-is, start-test, unfixed-rule}
 use Rattle.theory.specs.Protocol.Small.{small-after, small-shows}
 use Rattle.theory.specs.Protocol.Lists.{tried-fires, tried-not, rule-fires, each, keeps, length-after, after-append, meetings-append, size-after}
 use Rattle.theory.specs.Ladder.{Layers, OrderedPartition, QuietBelow, lowest, layered, Laddered, spread, spreads, rank}
@@ -51,6 +51,10 @@ module _ (P : Protocol) (good : WellFormed P) where
     shows-is = shows-is P c long;
     output-is = output-is P c long;
     mixed-is = mixed-is P c long;
+    start-is = λ none. (
+      λ start. (start .enough, λ s l. unfixed-rule P c none s l .0 (start .rule s l)),
+      λ t. record { sized = long; enough = t .0; rule = λ s l. unfixed-rule P c none s l .1 (t .1 s l) },
+    );
     takes-is = takes-is P;
     puts-is = puts-is P;
     trap-is = λ u A. follows-is P u (takes P A) (puts P A);
@@ -86,17 +90,17 @@ module _ (P : Protocol) (good : WellFormed P) where
   ws³-in-ws² : WS³ P → WS² P
   ws³-in-ws² w = record { termination = layered-terminates P (w .layered-termination); consensus = stronger (w .strong-consensus) }
 
--- Two terminal configurations that lists lead to, from input states only, show one output.
-agreeing : (P : Protocol) → Consensus P → (c : List ℕ) → length c ≡ P .states → ((s : ℕ) → s < P .states → P .input s ≡ false → count c s ≡ 0)
+-- Two terminal configurations that lists lead to, from counts that keep the start rule, show one output.
+agreeing : (P : Protocol) → Consensus P → (c : List ℕ) → length c ≡ P .states → ((s : ℕ) → s < P .states → StartRule P c s)
     → (rs ss : List ℕ) → terminal P (after P c rs) ≡ true → terminal P (after P c ss) ≡ true
     → (v : Bool) × Shows P v (after P c rs) × Shows P v (after P c ss)
-agreeing P one c long inputs rs ss x y =
+agreeing P one c long rule rs ss x y =
     by-cases (decLt (size c) 2)
     (λ l.
     let v = small-shows P c l in
     (v .0, subst (Shows P (v .0)) (sym (small-after P c l rs)) (v .1), subst (Shows P (v .0)) (sym (small-after P c l ss)) (v .1)))
     (λ g.
-    let v = one c (record { sized = long; enough = omega arith; inputs = inputs }) in
+    let v = one c (record { sized = long; enough = omega arith; rule = rule }) in
     (v .0, v .1 (after P c rs) (rs, refl) x, v .1 (after P c ss) (ss, refl) y))
 
 -- ---- Lists of calls on counts that pass

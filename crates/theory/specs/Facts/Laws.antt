@@ -1,14 +1,16 @@
 -- What facts say of runs from one start, and how they grow. Assumes nothing.
-use mathlib.Core.Path.{_≡_, refl, sym, subst}
+use mathlib.Core.Path.{_≡_, refl, sym, _∙_, subst}
 use mathlib.Core.Bool.{Bool, true, false, _&&_}
 use mathlib.Core.List.{List}
 use mathlib.Core.Logic.{⊎-elim}
 use Prim.Native.Nat.{ℕ, _≤_, _<_}
+use native.Mathlib.Omega.{arith}
 use lib.ListN.{length}
-use lib.Dec.{eqb}
+use lib.Dec.{ltb, eqb}
 use borrow.Author.Tests.{ltb-true, eqb-true, not-true}
 use Rattle.theory.specs.Bool.Laws.{not-both, and-elim, or-elim}
 use Rattle.theory.specs.Protocol.{Protocol, Start, count}
+use Rattle.theory.specs.Protocol.Laws.{start-fixed}
 use Rattle.theory.specs.Facts.{Facts, extend, withAbsent, withPresent, withAtMostOne, withUnused, fresh}
 use Rattle.theory.specs.Potential.Runs.{Reach}
 
@@ -42,8 +44,12 @@ module _ (P : Protocol) where
         absent = λ k s e.
             let t = and-elim _ _ e in
             let u = and-elim _ _ (t .1) in
-            rw (eqb-true k 0 (t .0), σ .still) (σ .starts .inputs s (ltb-true _ _ (u .0)) (not-true _ (u .1)));
-        present = λ k s e. absurd (not-both {b = false} e refl);
+            let v = and-elim _ _ (u .1) in
+            rw (eqb-true k 0 (t .0), σ .still) (σ .starts .rule s (ltb-true _ _ (u .0)) .others (not-true _ (v .1)) ∙ eqb-true _ _ (v .0));
+        present = λ k s e.
+            let t = and-elim (ltb 0 (P .fixed s)) (eqb k 0 && ltb s (P .states)) e in
+            let u = and-elim (eqb k 0) (ltb s (P .states)) (t .1) in
+            rw (eqb-true k 0 (u .0), σ .still) (omega (arith, ltb-true 0 (P .fixed s) (t .0), start-fixed P (σ .start) (σ .starts) s (ltb-true _ _ (u .1))));
         atMostOne = λ k s e. absurd (not-both {b = false} e refl);
         unused = λ k r e. absurd (not-both {b = false} e refl);
       }

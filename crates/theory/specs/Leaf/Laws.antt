@@ -1,22 +1,21 @@
 -- A leaf that closes refutes its facts. Assumes nothing.
 use mathlib.Core.Path.{_≡_, ap}
-use mathlib.Core.Bool.{true, false}
+use mathlib.Core.Bool.{true, false, not}
 use mathlib.Core.Logic.{by-cases}
 use Prim.Native.Nat.{ℕ, zero, suc, _+_, _-_, _*_, _≤_, _<_}
 use native.Mathlib.Nat.{mul-le-mul-right}
 use native.Mathlib.Decide.{decLt}
 use native.Mathlib.Omega.{arith}
-use lib.ListN.{length}
-use Rattle.theory.specs.Bool.Laws.{by-test, is-false}
-use Rattle.theory.specs.Below.{sumBelow}
-use Rattle.theory.specs.Below.Laws.{sum-zero}
+use lib.Dec.{ltb}
+use Rattle.theory.specs.Bool.Laws.{by-test, is-false, and-elim}
 use Rattle.theory.specs.Weigh.{weigh}
 use Rattle.theory.specs.Weigh.Laws.{weigh-add, weigh-compare}
-use Rattle.theory.specs.Protocol.{Protocol, WellFormed, count}
+use Rattle.theory.specs.Protocol.{Protocol, WellFormed, count, onlyFixed}
+use Rattle.theory.specs.Protocol.Laws.{start-fixed, start-only}
 use Rattle.theory.specs.Facts.{Facts}
 use Rattle.theory.specs.Facts.Laws.{Runs, at, length-at, Holds}
 use Rattle.theory.specs.Potential.Laws.{weigh-kept, even-kept}
-use Rattle.theory.specs.Leaf.{total, spare, surplus, shortfall, leafCloses}
+use Rattle.theory.specs.Leaf.{extra, spare, total, times, surplus, shortfall, leafCloses}
 use Rattle.theory.specs.Leaf.Tests.{Falls, AtMost, FewBelow, leaf-closes}
 
 -- At least m agents of a weight a or more: what is over a counts m times.
@@ -29,6 +28,13 @@ over a b c m l h =
     split : (a d c m : ℕ) → m ≤ c → a * c + m * d ≤ (a + d) * c
     split a d c m h = omega (arith, mul-le-mul-right d h)
 
+-- All m agents of a weight a, above b or below.
+pub even : (a b m : ℕ) → a * m + m * (b - a) ≡ b * m + m * (a - b)
+even a b m =
+    by-cases (decLt a b)
+    (λ l. let z : a - b ≡ 0 = omega arith in let e : b ≡ a + (b - a) = omega arith in omega (arith, ap (λ n. m * n) z, ap (λ n. m * n) e))
+    (λ g. let z : b - a ≡ 0 = omega arith in let e : a ≡ b + (a - b) = omega arith in omega (arith, ap (λ n. m * n) z, ap (λ n. m * n) e))
+
 -- At most one agent of a weight below b: what is missing counts once.
 under : (a b c : ℕ) → a ≤ b → c ≤ 1 → b * c ≤ a * c + (b - a)
 under a b zero l h = omega arith
@@ -40,16 +46,37 @@ module _ (P : Protocol) (good : WellFormed P) (σ : Runs P) where
   even-at b k = even-kept P good (σ .starts .sized) (σ .run k .potential) b
 
 module _ (P : Protocol) (good : WellFormed P) (σ : Runs P) (F : Facts) (h : Holds P F σ) where
-  start-term : (b : ℕ) (w : ℕ → ℕ) (s : ℕ) → (F .absent 0 s ≡ false → w s ≤ b)
-      → w s * count (at P σ 0) s + spare P F b w s ≤ b * count (at P σ 0) s + 0
-  unfolding spare
-  start-term b w s low =
+  -- The start holds at least as many agents as a state joins for, and no more where they are only fixed ones.
+  module _ (s : ℕ) (l : s < P .states) where
+    times-le : times P F s ≤ count (at P σ 0) s
+    unfolding times
+    times-le =
+        let f : P .fixed s ≤ count (at P σ 0) s = rw (σ .still) (start-fixed P (σ .start) (σ .starts) s l) in
+        by-test (F .absent 0 s)
+        (λ q. by-test (ltb 0 (P .fixed s)) (λ z. rw (q, z) (omega arith)) (λ z. rw (q, z) (omega arith)))
+        (λ q.
+        by-test (ltb 0 (P .fixed s))
+        (λ z. rw (q, z) (omega arith))
+        (λ z. by-test (F .present 0 s) (λ p. rw (q, z, p) (omega (arith, h .present 0 s p))) (λ p. rw (q, z, p) (omega arith))))
+
+    times-only : F .absent 0 s ≡ false → onlyFixed P s ≡ true → times P F s ≡ count (at P σ 0) s
+    unfolding times
+    times-only q e =
+        let f : count (at P σ 0) s ≡ P .fixed s = rw (σ .still) (start-only P (σ .start) (σ .starts) s l e) in
+        let z = and-elim (ltb 0 (P .fixed s)) (not (P .input s)) e .0 in
+        rw (q, z) (omega arith)
+
+  start-term : (b : ℕ) (w : ℕ → ℕ) (s : ℕ) → s < P .states → (F .absent 0 s ≡ false → onlyFixed P s ≡ false → w s ≤ b)
+      → w s * count (at P σ 0) s + spare (times P F) b w s ≤ b * count (at P σ 0) s + extra (times P F) b w s
+  unfolding spare extra
+  start-term b w s l low =
+      let n = count (at P σ 0) s in
       by-test (F .absent 0 s)
-      (λ q. rw (q, h .absent 0 s q) (omega arith))
+      (λ q. let z = h .absent 0 s q in let t : times P F s ≡ 0 = omega (arith, times-le s l) in rw (z, t) (omega arith))
       (λ q.
-      by-test (F .present 0 s)
-      (λ p. rw (q, p) (omega (arith, over (w s) b (count (at P σ 0) s) 1 (low q) (h .present 0 s p))))
-      (λ p. rw (q, p) (omega (arith, over (w s) b (count (at P σ 0) s) 0 (low q) (omega arith)))))
+      by-test (onlyFixed P s)
+      (λ z. rw (times-only s l q z) (omega (arith, even (w s) b n)))
+      (λ z. omega (arith, over (w s) b n (times P F s) (low q z) (times-le s l))))
 
   end-term : (k b : ℕ) (w : ℕ → ℕ) (s : ℕ) → (F .absent k s ≡ false → w s < b → F .atMostOne k s ≡ true)
       → b * count (at P σ k) s + surplus P F k b w s ≤ w s * count (at P σ k) s + shortfall P F k b w s
@@ -69,14 +96,13 @@ module _ (P : Protocol) (good : WellFormed P) (σ : Runs P) (F : Facts) (h : Hol
       (λ p. rw (q, p) (omega (arith, over b (w s) (count (at P σ k) s) 1 (omega arith) (h .present k s p))))
       (λ p. rw (q, p) (omega (arith, over b (w s) (count (at P σ k) s) 0 (omega arith) (omega arith))))))
 
-  -- The start weighs at most its size times the bias, less the spares.
+  -- The start weighs at most its size times the bias, with the extras and less the spares.
   start-bound : (b : ℕ) (w : ℕ → ℕ) → AtMost P F b w
-      → weigh w (at P σ 0) + total P (spare P F b w) ≤ weigh (λ _. b) (at P σ 0)
+      → weigh w (at P σ 0) + total P (spare (times P F) b w) ≤ weigh (λ _. b) (at P σ 0) + total P (extra (times P F) b w)
   start-bound b w low =
-      let t : weigh w (at P σ 0) + sumBelow (length (at P σ 0)) (spare P F b w) ≤ weigh (λ _. b) (at P σ 0) + sumBelow (length (at P σ 0)) (λ _. 0) =
-      weigh-compare (at P σ 0) w (λ _. b) (spare P F b w) (λ _. 0)
-      (λ s l. start-term b w s (low s (omega (arith, length-at P σ 0)))) in
-      omega (arith, rw (length-at P σ 0) at t, sum-zero (P .states))
+      rw (length-at P σ 0) at
+      (weigh-compare (at P σ 0) w (λ _. b) (spare (times P F) b w) (extra (times P F) b w)
+      (λ s l. let k : s < P .states = omega (arith, length-at P σ 0) in start-term b w s k (low s k)))
 
   -- An end weighs at least its size times the bias, with the surpluses and less the shortfalls.
   end-bound : (k b : ℕ) (w : ℕ → ℕ) → FewBelow P F b k w

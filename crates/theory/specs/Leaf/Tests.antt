@@ -8,9 +8,9 @@ use lib.Dec.{leb, ltb}
 use borrow.Author.Tests.{ltb-true, lt-ltb, leb-true, leb-false, le-leb, lt-leb}
 use Rattle.theory.specs.Bool.Laws.{by-test, or-left, or-right, or-resolve, all-six}
 use Rattle.theory.specs.Below.Laws.{all-unless}
-use Rattle.theory.specs.Protocol.{Protocol}
+use Rattle.theory.specs.Protocol.{Protocol, onlyFixed}
 use Rattle.theory.specs.Facts.{Facts}
-use Rattle.theory.specs.Leaf.{total, nonIncreasing, startFits, spare, endFits, surplus, shortfall, leafCloses}
+use Rattle.theory.specs.Leaf.{extra, spare, total, nonIncreasing, startFits, times, endFits, surplus, shortfall, leafCloses}
 
 -- What holds at 1 and at 2 holds at each end.
 pub at-ends : (Q : ℕ → Type 0) → Q 1 → Q 2 → (k : ℕ) → 1 ≤ k → k ≤ 2 → Q k
@@ -20,19 +20,19 @@ at-ends Q x y (suc (suc zero)) l m = y
 at-ends Q x y (suc (suc (suc k))) l m = absurd (omega arith)
 
 module _ (P : Protocol) (F : Facts) where
-  abbrev pub shortfalls : (ℕ → ℕ → ℕ) → ℕ
-  shortfalls w = total P (shortfall P F 1 10000 (w 1)) + total P (shortfall P F 2 10000 (w 2))
+  abbrev pub reductions : (ℕ → ℕ → ℕ) → ℕ
+  reductions w = total P (shortfall P F 1 10000 (w 1)) + total P (shortfall P F 2 10000 (w 2)) + total P (extra (times P F) 20000 (λ s. w 1 s + w 2 s))
 
   abbrev pub additions : (ℕ → ℕ → ℕ) → ℕ
-  additions w = total P (surplus P F 1 10000 (w 1)) + total P (surplus P F 2 10000 (w 2)) + total P (spare P F 20000 (λ s. w 1 s + w 2 s))
+  additions w = total P (surplus P F 1 10000 (w 1)) + total P (surplus P F 2 10000 (w 2)) + total P (spare (times P F) 20000 (λ s. w 1 s + w 2 s))
 
   -- No rule that is not unused raises v in run k.
   abbrev pub Falls : ℕ → (ℕ → ℕ) → Type 0
   Falls k v = (r : ℕ) → r < P .rules → F .unused k r ≡ false → v (P .p′ r) + v (P .q′ r) ≤ v (P .p r) + v (P .q r)
 
-  -- v is at most b where a state is not absent at the start.
+  -- v is at most b where a state is not absent at the start and is an input or has no fixed agents.
   abbrev pub AtMost : ℕ → (ℕ → ℕ) → Type 0
-  AtMost b v = (s : ℕ) → s < P .states → F .absent 0 s ≡ false → v s ≤ b
+  AtMost b v = (s : ℕ) → s < P .states → F .absent 0 s ≡ false → onlyFixed P s ≡ false → v s ≤ b
 
   -- A state that is not absent at end k and has less than b holds at most one agent there.
   abbrev pub FewBelow : ℕ → ℕ → (ℕ → ℕ) → Type 0
@@ -43,7 +43,7 @@ module _ (P : Protocol) (F : Facts) where
     pub rules : (k : ℕ) → 1 ≤ k → k ≤ 2 → Falls k (w k)
     pub start : AtMost 20000 (λ s. w 1 s + w 2 s)
     pub ends : (k : ℕ) → 1 ≤ k → k ≤ 2 → FewBelow 10000 k (w k)
-    pub sums : shortfalls w < additions w
+    pub sums : reductions w < additions w
 
   falls : (k : ℕ) (v : ℕ → ℕ) → (nonIncreasing P (F .unused k) v ≡ true) ↔ Falls k v
   unfolding nonIncreasing
@@ -54,7 +54,10 @@ module _ (P : Protocol) (F : Facts) where
   at-most : (b : ℕ) (v : ℕ → ℕ) → (startFits P F b v ≡ true) ↔ AtMost b v
   unfolding startFits
   at-most b v =
-      let t = all-unless (P .states) (F .absent 0) (λ s. leb (v s) b) in (λ e s l a. leb-true _ _ (t .0 e s l a), λ h. t .1 (λ s l a. le-leb _ _ (h s l a)))
+      let t = all-unless (P .states) (F .absent 0) (λ s. onlyFixed P s || leb (v s) b) in (
+        λ e s l a n. leb-true _ _ (or-resolve _ _ n (t .0 e s l a)),
+        λ h. t .1 (λ s l a. by-test (onlyFixed P s) (or-left _ _) (λ n. or-right (onlyFixed P s) (leb (v s) b) (le-leb _ _ (h s l a n)))),
+      )
 
   few-below : (b k : ℕ) (v : ℕ → ℕ) → (endFits P F k b v ≡ true) ↔ FewBelow b k v
   unfolding endFits
@@ -73,14 +76,14 @@ module _ (P : Protocol) (F : Facts) where
       (startFits P F 20000 (λ s. w 1 s + w 2 s))
       (endFits P F 1 10000 (w 1))
       (endFits P F 2 10000 (w 2))
-      (ltb (shortfalls w) (additions w)) in (
+      (ltb (reductions w) (additions w)) in (
         λ e.
             let t = six .0 e in
             record {
               rules = at-ends (λ k. Falls k (w k)) (falls 1 (w 1) .0 (t .0)) (falls 2 (w 2) .0 (t .1));
               start = at-most 20000 (λ s. w 1 s + w 2 s) .0 (t .2);
               ends = at-ends (λ k. FewBelow 10000 k (w k)) (few-below 10000 1 (w 1) .0 (t .3)) (few-below 10000 2 (w 2) .0 (t .4));
-              sums = ltb-true (shortfalls w) (additions w) (t .5);
+              sums = ltb-true (reductions w) (additions w) (t .5);
             },
         λ t. six .1 (
           falls 1 (w 1) .1 (t .rules 1 (omega arith) (omega arith)),
@@ -88,6 +91,6 @@ module _ (P : Protocol) (F : Facts) where
           at-most 20000 (λ s. w 1 s + w 2 s) .1 (t .start),
           few-below 10000 1 (w 1) .1 (t .ends 1 (omega arith) (omega arith)),
           few-below 10000 2 (w 2) .1 (t .ends 2 (omega arith) (omega arith)),
-          lt-ltb (shortfalls w) (additions w) (t .sums),
+          lt-ltb (reductions w) (additions w) (t .sums),
         ),
       )

@@ -31,6 +31,7 @@ module _ (P : Protocol) (m : ℕ) (a b : ℕ → ℕ) where
     q′ = before (P .q′) b;
     output = P .output;
     input = P .input;
+    fixed = P .fixed;
   }
 
   abbrev Q : Protocol

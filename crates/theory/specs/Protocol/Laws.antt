@@ -16,7 +16,7 @@ use Rattle.theory.specs.Below.Laws.{all-elim, all-intro, all-fails, firs
 use Rattle.theory.specs.Weigh.{weigh}
 use Rattle.theory.specs.Weigh.Laws.{weigh-set, weigh-some, weigh-one, occupied-lt}
 use Rattle.theory.specs.Protocol.{Protocol, WellFormed, agreed, mixed, count, size, lose, gain, pre, post, enabled, fire, terminal, Shows}
-use Rattle.theory.specs.Protocol.{shows, outputOf, Start, unfit, startTest}
+use Rattle.theory.specs.Protocol.{shows, outputOf, StartRule, Start, onlyFixed, Unfixed, unfit, startTest}
 
 -- ---- One agent less, one agent more
 
@@ -272,13 +272,26 @@ module _ (P : Protocol) (c : List ℕ) where
 
   -- ---- Starts
 
-  unfit-input : (s : ℕ) → P .input s ≡ true → unfit P c s ≡ false
+  unfit-input : (s : ℕ) → P .input s ≡ true → unfit P c s ≡ ltb (count c s) (P .fixed s)
   unfolding unfit
   unfit-input s e = rw (e, unfit)
 
-  unfit-other : (s : ℕ) → P .input s ≡ false → unfit P c s ≡ ltb 0 (count c s)
+  unfit-other : (s : ℕ) → P .input s ≡ false → unfit P c s ≡ not (eqb (count c s) (P .fixed s))
   unfolding unfit
   unfit-other s e = rw (e, unfit)
+
+  -- A state is not unfit just where it keeps the start rule.
+  pub fit-rule : (s : ℕ) → (unfit P c s ≡ false) ↔ StartRule P c s
+  fit-rule s = (
+    λ h. record {
+      others = λ e. eqb-true _ _ (not-false _ (sym (unfit-other s e) ∙ h));
+      inputs = λ e. ltb-false _ _ (sym (unfit-input s e) ∙ h);
+    },
+    λ rule.
+        by-test (P .input s)
+        (λ e. unfit-input s e ∙ le-ltb _ _ (rule .inputs e))
+        (λ e. unfit-other s e ∙ ap not (eq-eqb _ _ (rule .others e))),
+  )
 
   -- The start test passes just the starts.
   pub start-test : length c ≡ P .states → 2 ≤ size c → (startTest P c ≡ P .states) ↔ Start P c
@@ -287,10 +300,38 @@ module _ (P : Protocol) (c : List ℕ) where
     λ h. record {
       sized = long;
       enough = enough;
-      inputs = λ s l e. omega (arith, ltb-false 0 (count c s) (sym (unfit-other s e) ∙ first-lowest (P .states) (unfit P c) s (omega arith)));
+      rule = λ s l. fit-rule s .0 (first-lowest (P .states) (unfit P c) s (omega arith));
     },
-    λ start.
-        first-is (P .states) (unfit P c) (P .states) (omega arith)
-        (λ s l. by-test (P .input s) (unfit-input s) (λ e. unfit-other s e ∙ le-ltb 0 (count c s) (omega (arith, start .inputs s l e))))
-        (λ l. absurd (omega arith)),
+    λ start. first-is (P .states) (unfit P c) (P .states) (omega arith) (λ s l. fit-rule s .1 (start .rule s l)) (λ l. absurd (omega arith)),
   )
+
+  -- Every state holds its fixed agents; where it is no input, only these.
+  pub start-fixed : Start P c → (s : ℕ) → s < P .states → P .fixed s ≤ count c s
+  start-fixed start s l = by-test (P .input s) (start .rule s l .inputs) (λ e. omega (arith, start .rule s l .others e))
+
+  pub start-only : Start P c → (s : ℕ) → s < P .states → onlyFixed P s ≡ true → count c s ≡ P .fixed s
+  start-only start s l e = start .rule s l .others (not-true _ (and-elim (ltb 0 (P .fixed s)) (not (P .input s)) e .1))
+
+  -- Without fixed agents the start rule is the paper's: agents in input states only.
+  pub unfixed-rule : Unfixed P → (s : ℕ) → s < P .states → StartRule P c s ↔ (P .input s ≡ false → count c s ≡ 0)
+  unfixed-rule none s l = (
+    λ rule e. rule .others e ∙ none s l,
+    λ h. record { others = λ e. h e ∙ sym (none s l); inputs = λ e. omega (arith, none s l) },
+  )
+
+-- The states that are not known to hold just their fixed agents: inputs, and those that have none.
+pub only-not : (P : Protocol) (s : ℕ) → (onlyFixed P s ≡ false) ↔ ((P .input s ≡ true) ⊎ (P .fixed s ≡ 0))
+only-not P s = (
+  λ e.
+      ⊎-elim
+      (λ (d : ltb 0 (P .fixed s) ≡ false). let l = ltb-false 0 (P .fixed s) d in inr (omega arith))
+      (λ (d : not (P .input s) ≡ false). inl (not-false _ d))
+      (and-fails (ltb 0 (P .fixed s)) (not (P .input s)) e),
+  λ t.
+      is-false _ (λ e.
+      let f = and-elim (ltb 0 (P .fixed s)) (not (P .input s)) e in
+      ⊎-elim
+      (λ (i : P .input s ≡ true). not-both i (not-true _ (f .1)))
+      (λ (n : P .fixed s ≡ 0). omega (arith, ltb-true 0 (P .fixed s) (f .0)))
+      t),
+)

@@ -7,15 +7,16 @@ use native.Mathlib.Omega.{arith}
 use Rattle.theory.specs.Bool.Laws.{by-test, not-both, and-elim}
 use Rattle.theory.specs.Weigh.{weigh}
 use Rattle.theory.specs.Weigh.Laws.{weigh-add}
-use Rattle.theory.specs.Protocol.{Protocol, WellFormed, count}
+use Rattle.theory.specs.Protocol.{Protocol, WellFormed, count, onlyFixed}
+use Rattle.theory.specs.Protocol.Laws.{start-only}
 use Rattle.theory.specs.Facts.{Facts}
 use Rattle.theory.specs.Facts.Laws.{Runs, at, length-at, Holds}
 use Rattle.theory.specs.Potential.Laws.{flow-weigh}
-use Rattle.theory.specs.Leaf.{total}
-use Rattle.theory.specs.Leaf.Laws.{even-at}
-use Rattle.theory.specs.Remainder.{congruent, exactlyOne, excess, deficit, remainderCloses}
+use Rattle.theory.specs.Leaf.{extra, spare, total}
+use Rattle.theory.specs.Leaf.Laws.{even, even-at}
+use Rattle.theory.specs.Remainder.{congruent, exactlyOne, known, excess, deficit, remainderCloses}
 use Rattle.theory.specs.Remainder.Congruence.{Congruent, congruent-is, congruent-times, congruent-sum, congruent-weigh}
-use Rattle.theory.specs.Remainder.Tests.{Conserves, Vanishes, VanishesAt, excesses, deficits, remainder-closes}
+use Rattle.theory.specs.Remainder.Tests.{Conserves, Vanishes, VanishesAt, additions, reductions, remainder-closes}
 
 module _ (P : Protocol) (good : WellFormed P) (m : ℕ) (σ : Runs P) (F : Facts) (h : Holds P F σ) where
   -- A run keeps the remainder of a weight that its rules conserve.
@@ -32,18 +33,28 @@ module _ (P : Protocol) (good : WellFormed P) (m : ℕ) (σ : Runs P) (F : Facts
       (λ u. let t = congruent-times m (after r) (before r) (x r) (keeps r l u) in (t .0, t .1, omega (arith, t .2)))) in
       (c .0, c .1, omega (arith, c .2, flow-weigh P good (σ .starts .sized) (σ .run k .potential) w))
 
-  -- The start weighs its size times the bias, modulo m.
-  start-vanishes : (b : ℕ) (w : ℕ → ℕ) → Vanishes P m F b w → Congruent m (weigh w (at P σ 0)) (weigh (λ _. b) (at P σ 0))
-  start-vanishes b w none =
-      let c =
-      congruent-weigh m (at P σ 0) w (λ _. b) (λ _. 0) (λ _. 0)
-      (λ s l.
+  -- A state at the start weighs the bias, modulo m, with its extra and less its spare.
+  start-term : (b : ℕ) (w : ℕ → ℕ) (s : ℕ) → s < P .states → Vanishes P m F b w
+      → Congruent m (w s * count (at P σ 0) s + spare (known P F) b w s) (b * count (at P σ 0) s + extra (known P F) b w s)
+  unfolding spare extra known
+  start-term b w s l none =
       by-test (F .absent 0 s)
-      (λ q. rw (h .absent 0 s q) (0, 0, omega arith))
+      (λ q. rw (q, h .absent 0 s q) (0, 0, omega arith))
       (λ q.
-      let t = congruent-times m (w s) b (count (at P σ 0) s) (none s (omega (arith, length-at P σ 0)) q) in
-      (t .0, t .1, omega (arith, t .2)))) in
-      (c .0, c .1, omega (arith, c .2))
+      by-test (onlyFixed P s)
+      (λ z.
+      let n : count (at P σ 0) s ≡ P .fixed s = rw (σ .still) (start-only P (σ .start) (σ .starts) s l z) in
+      rw (q, z, n) (0, 0, omega (arith, even (w s) b (P .fixed s))))
+      (λ z.
+      let t = congruent-times m (w s) b (count (at P σ 0) s) (none s l q z) in
+      rw (q, z) (t .0, t .1, omega (arith, t .2))))
+
+  start-vanishes : (b : ℕ) (w : ℕ → ℕ) → Vanishes P m F b w
+      → Congruent m (weigh w (at P σ 0) + total P (spare (known P F) b w)) (weigh (λ _. b) (at P σ 0) + total P (extra (known P F) b w))
+  start-vanishes b w none =
+      rw (length-at P σ 0) at
+      (congruent-weigh m (at P σ 0) w (λ _. b) (spare (known P F) b w) (extra (known P F) b w)
+      (λ s l. start-term b w s (omega (arith, length-at P σ 0)) none))
 
   one-agent : (k s : ℕ) → exactlyOne F k s ≡ true → count (at P σ k) s ≡ 1
   unfolding exactlyOne
@@ -82,7 +93,7 @@ module _ (P : Protocol) (good : WellFormed P) (m : ℕ) (σ : Runs P) (F : Facts
       let s = start-vanishes 20000 (λ s. w 1 s + w 2 s) (t .start) in
       let e1 = end-vanishes 1 10000 (w 1) (t .ends 1 (omega arith) (omega arith)) in
       let e2 = end-vanishes 2 10000 (w 2) (t .ends 2 (omega arith) (omega arith)) in
-      let c : Congruent m (excesses P m F w) (deficits P m F w) = (
+      let c : Congruent m (additions P m F w) (reductions P m F w) = (
         e1 .1 + e2 .1 + r1 .0 + r2 .0 + s .0,
         s .1 + r1 .1 + r2 .1 + e1 .0 + e2 .0,
         omega (
@@ -100,4 +111,4 @@ module _ (P : Protocol) (good : WellFormed P) (m : ℕ) (σ : Runs P) (F : Facts
           even-at P good σ 10000 2,
         ),
       ) in
-      not-both (congruent-is m (excesses P m F w) (deficits P m F w) .1 c) (t .sums)
+      not-both (congruent-is m (additions P m F w) (reductions P m F w) .1 c) (t .sums)

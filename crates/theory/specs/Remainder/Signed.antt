@@ -1,28 +1,27 @@
 -- The remainder rule on biased weights is document 02's on signed ones. Assumes nothing.
 use mathlib.Core.Path.{_≡_, refl, ap}
-use mathlib.Core.Bool.{Bool, true, false, cond}
+use mathlib.Core.Bool.{Bool, true, false, not, cond, _&&_, and-false}
 use mathlib.Core.Logic.{_↔_, _⊎_, inl, inr, ⊎-elim, by-cases}
 use Prim.Native.Nat.{ℕ, zero, suc, _+_, _-_, _*_}
 use native.Mathlib.Decide.{decLe}
 use native.Mathlib.Omega.{arith}
+use lib.Dec.{ltb}
+use borrow.Author.Tests.{ltb-false}
 use lib.IntN.{ℤ, pos, negsuc, negℤ, _+ℤ_, _-ℤ_, _*ℤ_}
 use Rattle.theory.specs.Bool.{bit}
-use Rattle.theory.specs.Bool.Laws.{is-false, not-both}
+use Rattle.theory.specs.Bool.Laws.{by-test, is-false, not-both}
 use Rattle.theory.specs.Below.Laws.{sum-same}
 use Rattle.theory.specs.Protocol.{Protocol}
+use Rattle.theory.specs.Protocol.Laws.{only-not}
 use Rattle.theory.specs.Facts.{Facts}
-use Rattle.theory.specs.Leaf.{total, signed}
-use Rattle.theory.specs.Leaf.Signed.{plus, minus, parts-same, add-parts, sum-parts, weight-parts, pair-parts}
-use Rattle.theory.specs.Remainder.{congruent, exactlyOne, excess, deficit, remainderCloses, SameModulo, exactSum, RemainderRule}
+use Rattle.theory.specs.Leaf.{extra, spare, total, signed}
+use Rattle.theory.specs.Leaf.Signed.{plus, minus, parts-same, add-parts, neg-parts, times-parts, sum-parts, weight-parts, pair-parts}
+use Rattle.theory.specs.Leaf.Signed.{Joined, joined-times, joined-is}
+use Rattle.theory.specs.Remainder.{congruent, exactlyOne, known, excess, deficit, remainderCloses, SameModulo, exactSum, fixedSum, RemainderRule}
 use Rattle.theory.specs.Remainder.Congruence.{Congruent, congruent-is}
-use Rattle.theory.specs.Remainder.Tests.{excesses, deficits, remainder-closes}
+use Rattle.theory.specs.Remainder.Tests.{additions, reductions, remainder-closes}
 
 -- ---- The same modulo m, in parts
-
-neg-parts : (b : ℤ) → (plus (negℤ b) ≡ minus b) × (minus (negℤ b) ≡ plus b)
-neg-parts (pos zero) = (refl, refl)
-neg-parts (pos (suc n)) = (refl, refl)
-neg-parts (negsuc n) = (refl, refl)
 
 diff-parts : (a b : ℤ) → plus (a -ℤ b) + (minus a + plus b) ≡ minus (a -ℤ b) + (plus a + minus b)
 diff-parts a b = omega (arith, add-parts a (negℤ b), neg-parts b)
@@ -90,11 +89,22 @@ exact-term : (e : Bool) (w : ℕ) → let y = cond e (signed w) (pos 0) in (plus
 exact-term true w = omega (arith, weight-parts w)
 exact-term false w = omega arith
 
+-- The term of a state in what is taken off: a says whether it is absent, i whether it is an input, n is its number of fixed
+-- agents.
+fixed-term : (a i : Bool) (n v w : ℕ)
+    → Joined (cond (not a && not i) (pos n *ℤ (signed v +ℤ signed w)) (pos 0)) (bit (not a && (ltb 0 n && not i)) * n) v w
+fixed-term true i n v w = omega arith
+fixed-term false true n v w = rw (and-false (ltb 0 n)) (omega arith)
+fixed-term false false n v w =
+    by-test (ltb 0 n)
+    (λ e. let d : 1 * n ≡ n = omega arith in rw (e, d) (joined-times n v w))
+    (λ e. let d : n ≡ 0 = omega (arith, ltb-false 0 n e) in rw (e, d) (joined-times 0 v w))
+
 module _ (P : Protocol) (m : ℕ) (F : Facts) (w : ℕ → ℕ → ℕ) where
   abbrev y : ℕ → ℕ → ℤ
   y k s = signed (w k s)
 
-  -- The sum of an end is excesses - deficits.
+  -- The sum of an end is additions - reductions.
   exact-is : (k : ℕ) → plus (exactSum P F y k) + total P (deficit F k 10000 (w k)) ≡ minus (exactSum P F y k) + total P (excess F k 10000 (w k))
   unfolding exactSum excess deficit
   exact-is k =
@@ -106,10 +116,17 @@ module _ (P : Protocol) (m : ℕ) (F : Facts) (w : ℕ → ℕ → ℕ) where
         sum-same (P .states) (λ s. minus (f s)) (deficit F k 10000 (w k)) (λ s _. exact-term (exactlyOne F k s) (w k s) .1),
       )
 
-  sums-is : SameModulo m (exactSum P F y 1 +ℤ exactSum P F y 2) (pos 0) ↔ (congruent m (excesses P m F w) (deficits P m F w) ≡ true)
+  fixed-is : let v : ℕ → ℕ = λ s. w 1 s + w 2 s in
+      plus (fixedSum P F y) + total P (spare (known P F) 20000 v) ≡ minus (fixedSum P F y) + total P (extra (known P F) 20000 v)
+  unfolding fixedSum known
+  fixed-is = joined-is P F w _ (known P F) (λ s. fixed-term (F .absent 0 s) (P .input s) (P .fixed s) (w 1 s) (w 2 s))
+
+  sums-is : SameModulo m (exactSum P F y 1 +ℤ exactSum P F y 2 -ℤ fixedSum P F y) (pos 0) ↔ (congruent m (additions P m F w) (reductions P m F w) ≡ true)
   sums-is =
-      same-by m (exactSum P F y 1 +ℤ exactSum P F y 2) (pos 0) (excesses P m F w) (deficits P m F w)
-      (omega (arith, add-parts (exactSum P F y 1) (exactSum P F y 2), exact-is 1, exact-is 2))
+      let ends = exactSum P F y 1 +ℤ exactSum P F y 2 in
+      let off = fixedSum P F y in
+      same-by m (ends -ℤ off) (pos 0) (additions P m F w) (reductions P m F w)
+      (omega (arith, diff-parts ends off, add-parts (exactSum P F y 1) (exactSum P F y 2), exact-is 1, exact-is 2, fixed-is))
 
   pub remainder-is : (remainderCloses P m F w ≡ true) ↔ RemainderRule P F y m
   remainder-is = (
@@ -117,14 +134,14 @@ module _ (P : Protocol) (m : ℕ) (F : Facts) (w : ℕ → ℕ → ℕ) where
         let t = remainder-closes P m F w .0 e in
         record {
           rules = λ k i j r l u. same-pairs m (w k (P .p′ r)) (w k (P .q′ r)) (w k (P .p r)) (w k (P .q r)) .1 (t .rules k i j r l u);
-          start = λ s l a. same-pair m (w 1 s) (w 2 s) .1 (t .start s l a);
+          start = λ s l a n. same-pair m (w 1 s) (w 2 s) .1 (t .start s l a (only-not P s .1 n));
           ends = λ k i j s l a. ⊎-elim (λ e. inl (same-weight m (w k s) .1 e)) inr (t .ends k i j s l a);
           sums = λ s. not-both (sums-is .0 s) (t .sums);
         },
     λ t.
         remainder-closes P m F w .1 (record {
           rules = λ k i j r l u. same-pairs m (w k (P .p′ r)) (w k (P .q′ r)) (w k (P .p r)) (w k (P .q r)) .0 (t .rules k i j r l u);
-          start = λ s l a. same-pair m (w 1 s) (w 2 s) .0 (t .start s l a);
+          start = λ s l a n. same-pair m (w 1 s) (w 2 s) .0 (t .start s l a (only-not P s .0 n));
           ends = λ k i j s l a. ⊎-elim (λ e. inl (same-weight m (w k s) .0 e)) inr (t .ends k i j s l a);
           sums = is-false _ (λ e. t .sums (sums-is .1 e));
         }),

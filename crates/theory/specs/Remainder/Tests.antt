@@ -5,28 +5,28 @@ use mathlib.Core.Logic.{_↔_, _⊎_, ⊎-elim}
 use Prim.Native.Nat.{ℕ, _+_, _≤_, _<_}
 use native.Mathlib.Omega.{arith}
 use borrow.Author.Tests.{not-true}
-use Rattle.theory.specs.Bool.Laws.{or-left, or-right, or-elim, all-six}
+use Rattle.theory.specs.Bool.Laws.{by-test, or-left, or-right, or-elim, or-resolve, all-six}
 use Rattle.theory.specs.Below.Laws.{all-unless}
-use Rattle.theory.specs.Protocol.{Protocol}
+use Rattle.theory.specs.Protocol.{Protocol, onlyFixed}
 use Rattle.theory.specs.Facts.{Facts}
-use Rattle.theory.specs.Leaf.{total}
+use Rattle.theory.specs.Leaf.{extra, spare, total}
 use Rattle.theory.specs.Leaf.Tests.{at-ends}
-use Rattle.theory.specs.Remainder.{congruent, exactlyOne, conserved, startVanishes, endVanishes, excess, deficit, remainderCloses}
+use Rattle.theory.specs.Remainder.{congruent, exactlyOne, known, conserved, startVanishes, endVanishes, excess, deficit, remainderCloses}
 
 module _ (P : Protocol) (m : ℕ) (F : Facts) where
-  abbrev pub excesses : (ℕ → ℕ → ℕ) → ℕ
-  excesses w = total P (excess F 1 10000 (w 1)) + total P (excess F 2 10000 (w 2))
+  abbrev pub additions : (ℕ → ℕ → ℕ) → ℕ
+  additions w = total P (excess F 1 10000 (w 1)) + total P (excess F 2 10000 (w 2)) + total P (spare (known P F) 20000 (λ s. w 1 s + w 2 s))
 
-  abbrev pub deficits : (ℕ → ℕ → ℕ) → ℕ
-  deficits w = total P (deficit F 1 10000 (w 1)) + total P (deficit F 2 10000 (w 2))
+  abbrev pub reductions : (ℕ → ℕ → ℕ) → ℕ
+  reductions w = total P (deficit F 1 10000 (w 1)) + total P (deficit F 2 10000 (w 2)) + total P (extra (known P F) 20000 (λ s. w 1 s + w 2 s))
 
   -- Every rule that is not unused in run k conserves v modulo m.
   abbrev pub Conserves : ℕ → (ℕ → ℕ) → Type 0
   Conserves k v = (r : ℕ) → r < P .rules → F .unused k r ≡ false → congruent m (v (P .p′ r) + v (P .q′ r)) (v (P .p r) + v (P .q r)) ≡ true
 
-  -- v is b modulo m where a state is not absent at the start.
+  -- v is b modulo m where a state is not absent at the start and is an input or has no fixed agents.
   abbrev pub Vanishes : ℕ → (ℕ → ℕ) → Type 0
-  Vanishes b v = (s : ℕ) → s < P .states → F .absent 0 s ≡ false → congruent m (v s) b ≡ true
+  Vanishes b v = (s : ℕ) → s < P .states → F .absent 0 s ≡ false → onlyFixed P s ≡ false → congruent m (v s) b ≡ true
 
   -- A state that is not absent at end k has b modulo m, or holds exactly one agent there.
   abbrev pub VanishesAt : ℕ → ℕ → (ℕ → ℕ) → Type 0
@@ -37,7 +37,7 @@ module _ (P : Protocol) (m : ℕ) (F : Facts) where
     pub rules : (k : ℕ) → 1 ≤ k → k ≤ 2 → Conserves k (w k)
     pub start : Vanishes 20000 (λ s. w 1 s + w 2 s)
     pub ends : (k : ℕ) → 1 ≤ k → k ≤ 2 → VanishesAt 10000 k (w k)
-    pub sums : congruent m (excesses w) (deficits w) ≡ false
+    pub sums : congruent m (additions w) (reductions w) ≡ false
 
   conserves : (k : ℕ) (v : ℕ → ℕ) → (conserved P m (F .unused k) v ≡ true) ↔ Conserves k v
   unfolding conserved
@@ -45,7 +45,11 @@ module _ (P : Protocol) (m : ℕ) (F : Facts) where
 
   vanishes : (b : ℕ) (v : ℕ → ℕ) → (startVanishes P m F b v ≡ true) ↔ Vanishes b v
   unfolding startVanishes
-  vanishes b v = all-unless (P .states) (F .absent 0) _
+  vanishes b v =
+      let t = all-unless (P .states) (F .absent 0) (λ s. onlyFixed P s || congruent m (v s) b) in (
+        λ e s l a n. or-resolve _ _ n (t .0 e s l a),
+        λ h. t .1 (λ s l a. by-test (onlyFixed P s) (or-left _ _) (λ n. or-right (onlyFixed P s) (congruent m (v s) b) (h s l a n))),
+      )
 
   vanishes-at : (b k : ℕ) (v : ℕ → ℕ) → (endVanishes P m F k b v ≡ true) ↔ VanishesAt b k v
   unfolding endVanishes
@@ -64,7 +68,7 @@ module _ (P : Protocol) (m : ℕ) (F : Facts) where
       (startVanishes P m F 20000 (λ s. w 1 s + w 2 s))
       (endVanishes P m F 1 10000 (w 1))
       (endVanishes P m F 2 10000 (w 2))
-      (not (congruent m (excesses w) (deficits w))) in (
+      (not (congruent m (additions w) (reductions w))) in (
         λ e.
             let t = six .0 e in
             record {

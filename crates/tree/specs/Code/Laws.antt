@@ -15,7 +15,7 @@ use Rattle.theory.specs.Facts.{Facts, fresh}
 use Rattle.theory.specs.Tree.{Tree, Assumption, Walked, next, refused, forest, ground, assuming, disagreement, node, treeAt, treeAnswer}
 use Rattle.theory.specs.Tree.{setSize, widestBelow, widest}
 use Rattle.bits.specs.Code.{fullOf, amongOf, withoutOf}
-use Rattle.format.specs.Format.{isInput, isOutput, nodeKind, nodeSet, protocolOf, treeOf, weightsOf}
+use Rattle.format.specs.Format.{isInput, isOutput, fixedOf, nodeKind, nodeSet, protocolOf, treeOf, weightsOf}
 use Rattle.format.specs.declared.Sizes.{Sizes}
 use Rattle.facts.specs.Code.{factsOf, freshOf}
 use Rattle.facts.specs.Code.Laws.{fresh-is}
@@ -123,10 +123,11 @@ pub ruleset steps = (walk-deep, walk-past, step-refused, step-closed, step-child
 
 -- ---- The whole tree
 
--- By the word u of the inputs the facts F are fresh.
-pub fresh-facts : (z : Sizes) (states rules : List ℕ) (u : ℕ) (F : Facts) → z .states ≤ 64 → member u ≡ amongOf (z .states) (isInput z states)
-    → F ≡ freshOf (z .states) (member u) → F ≡ fresh (protocolOf z states rules)
-fresh-facts z states rules u F h e f = f ∙ fresh-is (protocolOf z states rules) u h e
+-- By the words u of the inputs and v of the states with fixed agents the facts F are fresh.
+pub fresh-facts : (z : Sizes) (states rules : List ℕ) (u v : ℕ) (F : Facts) → z .states ≤ 64 → member u ≡ amongOf (z .states) (isInput z states)
+    → member v ≡ amongOf (z .states) (λ s. ltb 0 (fixedOf z states s))
+    → F ≡ freshOf (z .states) (member u) (member v) → F ≡ fresh (protocolOf z states rules)
+fresh-facts z states rules u v F h e d f = f ∙ fresh-is (protocolOf z states rules) u v h e d
 
 -- The walk comes to w.
 module _ (P : Protocol) (H : Assumption) (T : Tree) (F : Facts) (w : Walk) (facts : F ≡ fresh P) (walked : walkedOf w ≡ treeAt P H T 40 F 0) where

@@ -46,7 +46,7 @@ returns c =
     let p₅ = c₅ .before .before .put5 .ensures in
     let p₆ = c .before .before .put6 .ensures in
     let start = c₀ .before .before .before .before .before .before .before in
-    docket-put _ _ (p₁ .1 .1) (p₁ .0) (p₂ .1 .1) (p₂ .0) (p₃ .1 .1) (p₃ .0) (p₄ .1 .1) (p₄ .0) (p₅ .1 .1) (p₅ .0) (p₆ .1 .1) (p₆ .0)
+    docket-put _ _ _ (p₁ .1 .1) (p₁ .0) (p₂ .1 .1) (p₂ .0) (p₃ .1 .1) (p₃ .0) (p₄ .1 .1) (p₄ .0) (p₅ .1 .1) (p₅ .0) (p₆ .1 .1) (p₆ .0)
     (start .pre .0) (c₀ .header-bytes .ensures)
 
 pub put-docket-spec : {M : Type 1} → statement M

@@ -4,6 +4,9 @@ use Rattle.writer.specs.Code.Laws.{sizes-cut}
 use Rattle.writer.proofs.sizes_for.Statement.{statement}
 use Rattle.writer.proofs.sizes_for.Tie as tie
 
+state-records-requires : tie.Need-state-records-requires
+state-records-requires c κs = search needs
+
 cut-requires : tie.Need-cut-requires
 cut-requires c κs = search needs
 
@@ -32,6 +35,7 @@ pub sizes-for-spec : {M : Type 1} → statement M
 sizes-for-spec =
     tie.close
     (tie.spec
+    state-records-requires
     cut-requires
     cut-requires-2
     records-by-states-requires

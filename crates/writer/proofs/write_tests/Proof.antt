@@ -42,7 +42,7 @@ returns-4 c =
     let counted = tested .before .before in
     let measured = counted .before .before in
     let start = measured .before .before .before .before .before .before in
-    room-refused _ _ _ _ (start .pre .0) _ (measured .length-fault .ensures) (counted .before .if1 .left)
+    room-refused _ _ _ _ _ (start .pre .0) _ (measured .length-fault .ensures) (counted .before .if1 .left)
     _ (start .pre .1) _ (counted .count-fault .ensures) (tested .before .if2 .left) _ (tested .record-tests .ensures)
     (header .before .enum-told .given .1) _ (header .header-for .ensures) (c .if3 .taken) refl
 
@@ -53,7 +53,7 @@ returns-5 c =
     let counted = tested .before .before in
     let measured = counted .before .before in
     let start = measured .before .before .before .before .before .before in
-    write-passed _ _ _ _ (start .pre .0) _ (measured .length-fault .ensures) (counted .before .if1 .left)
+    write-passed _ _ _ _ _ (start .pre .0) _ (measured .length-fault .ensures) (counted .before .if1 .left)
     _ (start .pre .1) _ (counted .count-fault .ensures) (tested .before .if2 .left) _ (tested .record-tests .ensures)
     (header .before .enum-told .given .1) _ (header .header-for .ensures) (c .if3 .left) refl
 

@@ -2,8 +2,9 @@
 use mathlib.Core.Path.{_≡_, refl, sym, ap, _∙_, subst}
 use mathlib.Core.Bool.{Bool, true, false, not, _||_}
 use mathlib.Core.List.{List, [], _∷_, _++_, append-assoc, append-nil}
+use mathlib.Core.Logic.{⊎-elim}
 use Prim.Native.Nat.{ℕ, _+_, _*_, _/_, _%_, _-_, _≤_, _<_}
-use native.Mathlib.Nat.{div-div-eq-div-mul, mod-one, mul-comm}
+use native.Mathlib.Nat.{div-div-eq-div-mul, div-one, mod-one, mul-comm}
 use native.Mathlib.Omega.{arith}
 use borrow.Author.Tests.{eqb-true, eqb-false, eq-eqb, ne-eqb, lt-ltb, le-ltb, ltb-true, ltb-false}
 use lib.Arith.{mod-mul}
@@ -15,23 +16,24 @@ use Rattle.theory.specs.Below.{firstBelow}
 use Rattle.theory.specs.Below.Scan.{first-clear}
 use Rattle.theory.specs.Judge.{Test, judge, Passes}
 use Rattle.theory.specs.Judge.Laws.{judge-hit, judge-pass, judge-done, only-hit, only-pass, judge-map, judge-append, judge-passes}
-use Rattle.format.specs.Format.{Sections, sections}
+use Rattle.format.specs.Format.{stateWidth, Sections, sections}
 use Rattle.format.specs.declared.Sizes.{Sizes}
 use Rattle.format.specs.declared.Header.{Header}
-use Rattle.shape.specs.Shape.{refusal, nth, countFaults, countTest, sectionTests}
+use Rattle.shape.specs.Shape.{refusal, nth, wrongVersion, countFaults, countTest, sectionTests}
 use Rattle.shape.specs.Shape.Laws.{five-of-six}
 use Rattle.shape.specs.Sound.{Limits}
-use Rattle.shape.specs.Sound.Laws.{limits}
+use Rattle.shape.specs.Sound.Laws.{version-passes, limits}
 use Rattle.shape.specs.Code.{testedOf}
 use Rattle.shape.specs.declared.Refusal.{Refusal}
 use Rattle.shape.specs.declared.Tested.{Tested}
 use Rattle.shape.specs.declared.Tested.the-variants.{Passed, Failed}
 use Rattle.leaf.specs.Leaf.{leafTest}
-use Rattle.writer.specs.Write.{lengthsOf, notWhole, records, lengthFaults, sizesFor, sizesIn, offsetsFor, headerFor, headerBytes, docketOf}
-use Rattle.writer.specs.Write.{lengthTest, recordTests, roomTest, writeTests, writeOf, outputOf, written}
+use Rattle.writer.specs.Write.{lengthsOf, notWhole, records, statesFor, lengthFaults, sizesFor, sizesIn, offsetsFor, headerFor, headerBytes, docketOf}
+use Rattle.writer.specs.Write.{lengthTest, recordTests, roomTest, partTests, writeOf, outputOf, written}
 use Rattle.writer.specs.Write.Laws.{whole-records, total-length, docket-length, room-passes}
-use Rattle.writer.specs.Code.{cut, cutSizes, recordsTested, writeTested, behind, asWritten, replaced}
+use Rattle.writer.specs.Code.{cut, cutSizes, recordsTested, partsTested, behind, asWritten, replaced}
 use Rattle.writer.specs.declared.Lengths.{Lengths}
+use Rattle.writer.specs.declared.Written.{Written}
 use Rattle.writer.specs.declared.Written.the-variants.{Total, Refused}
 
 -- ---- Records of 4 bytes for each of s states
@@ -65,13 +67,31 @@ module _ (s n : ℕ) where
     pub records-split : n / 4 / s ≡ records (4 * s) n
     records-split = rw (wide) (div-div-eq-div-mul n 4 s)
 
--- A state has one byte, so the first section is never at fault; whether layers and leaves are is t and u.
-pub five-lengths : (n : Lengths) (t u : Bool) (r : ℕ) → t ≡ notWhole (4 * n .states) (n .layers) → u ≡ notWhole (4 * n .states) (n .leaves)
-    → r ≡ firstBelow 6 (nth (false ∷ not (eqb (n .rules % 5) 0) ∷ t ∷ not (eqb (n .nodes % 12) 0) ∷ u ∷ true ∷ []))
-    → r ≡ firstBelow 5 (nth (lengthFaults n))
-five-lengths n t u r d f e =
-    let one : false ≡ notWhole 1 (n .states) = sym (ap not (eq-eqb (n .states % 1) 0 (mod-one (n .states)))) in
-    rw (← d, ← f, ← one) (five-of-six r false _ t _ u e)
+-- State records of three bytes, or of one.
+module _ (v n : ℕ) where
+  pub states-three : v ≡ 2 → n / 3 ≡ records (stateWidth v) n
+  states-three e = rw (eq-eqb v 2 e)
+
+  pub states-one : (v ≡ 2 → ⊥) → n ≡ records (stateWidth v) n
+  states-one e = rw (ne-eqb v 2 e) (sym (div-one n))
+
+  pub whole-three : v ≡ 2 → not (eqb (n % 3) 0) ≡ notWhole (stateWidth v) n
+  whole-three e = rw (eq-eqb v 2 e)
+
+  pub whole-one : (v ≡ 2 → ⊥) → false ≡ notWhole (stateWidth v) n
+  whole-one e = rw (ne-eqb v 2 e) (sym (ap not (eq-eqb (n % 1) 0 (mod-one n))))
+
+pub ruleset versions = (states-three, states-one, whole-three, whole-one)
+
+-- There are k states. Whether states, layers and leaves are at fault is s, t and u.
+pub five-lengths : (v : ℕ) (n : Lengths) (k : ℕ) (s t u : Bool) (r : ℕ) → k ≡ statesFor v n → s ≡ notWhole (stateWidth v) (n .states)
+    → t ≡ notWhole (4 * k) (n .layers) → u ≡ notWhole (4 * k) (n .leaves)
+    → r ≡ firstBelow 6 (nth (s ∷ not (eqb (n .rules % 5) 0) ∷ t ∷ not (eqb (n .nodes % 12) 0) ∷ u ∷ true ∷ []))
+    → r ≡ firstBelow 5 (nth (lengthFaults v n))
+five-lengths v n k s t u r c b d f e =
+    let t′ : t ≡ notWhole (4 * statesFor v n) (n .layers) = d ∙ ap (λ m. notWhole (4 * m) (n .layers)) c in
+    let u′ : u ≡ notWhole (4 * statesFor v n) (n .leaves) = f ∙ ap (λ m. notWhole (4 * m) (n .leaves)) c in
+    rw (← b, ← t′, ← u′) (five-of-six r s _ t _ u e)
 
 -- ---- Counts in 16 bits
 
@@ -93,11 +113,11 @@ cut-zero n =
     (λ e. let z : n ≡ 0 = eqb-true _ _ e in eq-eqb (cut n) 0 (omega arith) ∙ sym e)
     (λ e. let z : n ≡ 0 → ⊥ = eqb-false _ _ e in ne-eqb (cut n) 0 (λ d. z (omega arith)) ∙ sym e)
 
--- The counts that are made of the lengths n, a of the layers and b of the leaves.
-pub sizes-cut : (n : Lengths) (a b s r l m k : ℕ) → a ≡ records (4 * n .states) (n .layers) → b ≡ records (4 * n .states) (n .leaves)
-    → s ≡ cut (n .states) → r ≡ cut (n .rules / 5) → l ≡ cut a → m ≡ cut (n .nodes / 12) → k ≡ cut b
-    → record { version = 1; states = s; rules = r; layers = l; nodes = m; leaves = k } ≡ cutSizes (sizesFor n)
-sizes-cut n a b s r l m k ea eb es er el em ek = rw (es, er, el, em, ek, ea, eb)
+-- The counts that are made of the lengths n: c states, a layers and b leaves.
+pub sizes-cut : (v : ℕ) (n : Lengths) (a b c s r l m k : ℕ) → c ≡ statesFor v n → a ≡ records (4 * c) (n .layers) → b ≡ records (4 * c) (n .leaves)
+    → s ≡ cut c → r ≡ cut (n .rules / 5) → l ≡ cut a → m ≡ cut (n .nodes / 12) → k ≡ cut b
+    → record { version = v; states = s; rules = r; layers = l; nodes = m; leaves = k } ≡ cutSizes (sizesFor v n)
+sizes-cut v n a b c s r l m k ec ea eb es er el em ek = rw (es, er, el, em, ek, ea, eb, ec)
 
 -- Test 3 says the same of counts in 16 bits.
 pub cut-counts : (z : Sizes) → countFaults (cutSizes z) ≡ countFaults z
@@ -167,66 +187,66 @@ pub counts-within : (z : Sizes) (k : ℕ) → k ≡ firstBelow 5 (nth (countFaul
 counts-within z k e l = limits z (first-clear 5 (nth (countFaults z)) (omega (arith, e)))
 
 -- n are the lengths, i the first section at fault.
-module _ (x : Sections) (room : ℕ) (r : Tested) (n : Lengths) (e : n ≡ lengthsOf x) (i : ℕ) (f : i ≡ firstBelow 5 (nth (lengthFaults n))) where
-  at-length : i ≡ firstBelow 5 (nth (lengthFaults (lengthsOf x)))
-  at-length = f ∙ ap (λ m. firstBelow 5 (nth (lengthFaults m))) e
+module _ (v : ℕ) (x : Sections) (room : ℕ) (r : Tested) (n : Lengths) (e : n ≡ lengthsOf x) (i : ℕ) (f : i ≡ firstBelow 5 (nth (lengthFaults v n))) where
+  at-length : i ≡ firstBelow 5 (nth (lengthFaults v (lengthsOf x)))
+  at-length = f ∙ ap (λ m. firstBelow 5 (nth (lengthFaults v m))) e
 
-  pub length-refused : i < 5 → r ≡ Failed (refusal 31 i) → r ≡ writeTested x room
-  unfolding writeTested
-  length-refused l h = judge-hit failed Passed r (lengthTest x) _ i at-length l h
+  pub length-refused : i < 5 → r ≡ Failed (refusal 31 i) → r ≡ partsTested v x room
+  unfolding partsTested
+  length-refused l h = judge-hit failed Passed r (lengthTest v x) _ i at-length l h
 
   -- The lengths are whole; z are the counts, k the first that is outside its limits.
-  module _ (whole : 5 ≤ i) (z : Sizes) (g : z ≡ cutSizes (sizesFor n)) (k : ℕ) (h : k ≡ firstBelow 5 (nth (countFaults z))) where
-    behind-lengths : r ≡ judge failed Passed (countTest (sizesIn x) ∷ (recordTests (sizesIn x) x ++ roomTest x room ∷ [])) → r ≡ writeTested x room
-    unfolding writeTested
-    behind-lengths = judge-pass failed Passed r (lengthTest x) _ i at-length whole
+  module _ (whole : 5 ≤ i) (z : Sizes) (g : z ≡ cutSizes (sizesFor v n)) (k : ℕ) (h : k ≡ firstBelow 5 (nth (countFaults z))) where
+    behind-lengths : r ≡ judge failed Passed (countTest (sizesIn v x) ∷ (recordTests (sizesIn v x) x ++ roomTest v x room ∷ [])) → r ≡ partsTested v x room
+    unfolding partsTested
+    behind-lengths = judge-pass failed Passed r (lengthTest v x) _ i at-length whole
 
-    cut-sizes : z ≡ cutSizes (sizesIn x)
-    cut-sizes = g ∙ ap (λ m. cutSizes (sizesFor m)) e
+    cut-sizes : z ≡ cutSizes (sizesIn v x)
+    cut-sizes = g ∙ ap (λ m. cutSizes (sizesFor v m)) e
 
-    at-count : k ≡ firstBelow 5 (nth (countFaults (sizesIn x)))
-    at-count = h ∙ ap (λ m. firstBelow 5 (nth (countFaults m))) cut-sizes ∙ ap (λ ts. firstBelow 5 (nth ts)) (cut-counts (sizesIn x))
+    at-count : k ≡ firstBelow 5 (nth (countFaults (sizesIn v x)))
+    at-count = h ∙ ap (λ m. firstBelow 5 (nth (countFaults m))) cut-sizes ∙ ap (λ ts. firstBelow 5 (nth ts)) (cut-counts (sizesIn v x))
 
-    pub count-refused : k < 5 → r ≡ Failed (refusal 3 k) → r ≡ writeTested x room
-    count-refused l d = behind-lengths (judge-hit failed Passed r (countTest (sizesIn x)) _ k at-count l d)
+    pub count-refused : k < 5 → r ≡ Failed (refusal 3 k) → r ≡ partsTested v x room
+    count-refused l d = behind-lengths (judge-hit failed Passed r (countTest (sizesIn v x)) _ k at-count l d)
 
     -- The counts are within their limits; o is what the tests of the records found.
     module _ (within : 5 ≤ k) (o : Tested) (d : o ≡ recordsTested z (x .states) (x .rules) (x .layers) (x .leaves)) where
-      in-limits : Limits (sizesIn x)
-      in-limits = counts-within (sizesIn x) k at-count within
+      in-limits : Limits (sizesIn v x)
+      in-limits = counts-within (sizesIn v x) k at-count within
 
-      same-sizes : z ≡ sizesIn x
-      same-sizes = cut-sizes ∙ cut-same (sizesIn x) in-limits
+      same-sizes : z ≡ sizesIn v x
+      same-sizes = cut-sizes ∙ cut-same (sizesIn v x) in-limits
 
-      behind-counts : r ≡ judge failed Passed (recordTests (sizesIn x) x ++ roomTest x room ∷ []) → r ≡ writeTested x room
-      behind-counts q = behind-lengths (judge-pass failed Passed r (countTest (sizesIn x)) _ k at-count within q)
+      behind-counts : r ≡ judge failed Passed (recordTests (sizesIn v x) x ++ roomTest v x room ∷ []) → r ≡ partsTested v x room
+      behind-counts q = behind-lengths (judge-pass failed Passed r (countTest (sizesIn v x)) _ k at-count within q)
 
-      tested : o ≡ judge failed Passed (recordTests (sizesIn x) x)
+      tested : o ≡ judge failed Passed (recordTests (sizesIn v x) x)
       unfolding recordsTested
       tested = d ∙ ap (λ y. recordsTested y (x .states) (x .rules) (x .layers) (x .leaves)) same-sizes
 
-      pub records-refused : (q : Refusal) → o ≡ Failed q → r ≡ o → r ≡ writeTested x room
-      records-refused q p u = behind-counts (failed-else (recordTests (sizesIn x) x) (roomTest x room ∷ []) o r tested q p u)
+      pub records-refused : (q : Refusal) → o ≡ Failed q → r ≡ o → r ≡ partsTested v x room
+      records-refused q p u = behind-counts (failed-else (recordTests (sizesIn v x) x) (roomTest v x room ∷ []) o r tested q p u)
 
       module _ (p : o ≡ Passed) (header : Header) (t : header ≡ headerFor z) where
-        whole-total : header .at .total ≡ length (docketOf x)
+        whole-total : header .at .total ≡ length (docketOf v x)
         whole-total =
             ap (λ (g : Header). g .at .total) t ∙ ap (λ y. offsetsFor y .total) same-sizes
-            ∙ total-length x (whole-records x (first-clear 5 (nth (lengthFaults (lengthsOf x))) (omega (arith, at-length))))
+            ∙ total-length v x (whole-records v x (first-clear 5 (nth (lengthFaults v (lengthsOf x))) (omega (arith, at-length))))
             (omega (arith, in-limits .states-least))
 
-        behind-records : r ≡ judge failed Passed (roomTest x room ∷ []) → r ≡ writeTested x room
-        behind-records u = behind-counts (passed-then (recordTests (sizesIn x) x) (roomTest x room ∷ []) o r tested p u)
+        behind-records : r ≡ judge failed Passed (roomTest v x room ∷ []) → r ≡ partsTested v x room
+        behind-records u = behind-counts (passed-then (recordTests (sizesIn v x) x) (roomTest v x room ∷ []) o r tested p u)
 
-        pub room-refused : room < header .at .total → r ≡ Failed (refusal 30 0) → r ≡ writeTested x room
+        pub room-refused : room < header .at .total → r ≡ Failed (refusal 30 0) → r ≡ partsTested v x room
         room-refused l u =
             behind-records
-            (only-hit failed Passed r 30 (ltb room (length (docketOf x))) (ltb room (header .at .total)) [] (ap (ltb room) whole-total) (lt-ltb _ _ l) u)
+            (only-hit failed Passed r 30 (ltb room (length (docketOf v x))) (ltb room (header .at .total)) [] (ap (ltb room) whole-total) (lt-ltb _ _ l) u)
 
-        pub write-passed : header .at .total ≤ room → r ≡ Passed → r ≡ writeTested x room
+        pub write-passed : header .at .total ≤ room → r ≡ Passed → r ≡ partsTested v x room
         write-passed l u =
             behind-records
-            (only-pass failed Passed r 30 (ltb room (length (docketOf x))) (ltb room (header .at .total)) [] (ap (ltb room) whole-total) (le-ltb _ _ l)
+            (only-pass failed Passed r 30 (ltb room (length (docketOf v x))) (ltb room (header .at .total)) [] (ap (ltb room) whole-total) (le-ltb _ _ l)
             (judge-done failed Passed r u))
 
 -- ---- The output
@@ -271,15 +291,15 @@ begun-more old front part o q at k b e d = record {
 }
 
 -- The header and the five sections have been put behind each other.
-module _ (x : Sections) (old : List ℕ) {h o₁ o₂ o₃ o₄ o₅ o₆ : List ℕ} {a₁ a₂ a₃ a₄ a₅ a₆ : ℕ}
+module _ (v : ℕ) (x : Sections) (old : List ℕ) {h o₁ o₂ o₃ o₄ o₅ o₆ : List ℕ} {a₁ a₂ a₃ a₄ a₅ a₆ : ℕ}
     (e₁ : o₁ ≡ replaced old 0 h) (d₁ : a₁ ≡ 0 + length h)
     (e₂ : o₂ ≡ replaced o₁ a₁ (x .states)) (d₂ : a₂ ≡ a₁ + length (x .states))
     (e₃ : o₃ ≡ replaced o₂ a₂ (x .rules)) (d₃ : a₃ ≡ a₂ + length (x .rules))
     (e₄ : o₄ ≡ replaced o₃ a₃ (x .layers)) (d₄ : a₄ ≡ a₃ + length (x .layers))
     (e₅ : o₅ ≡ replaced o₄ a₄ (x .nodes)) (d₅ : a₅ ≡ a₄ + length (x .nodes))
     (e₆ : o₆ ≡ replaced o₅ a₅ (x .leaves)) (d₆ : a₆ ≡ a₅ + length (x .leaves))
-    {g : Header} (d : g ≡ headerFor (sizesIn x)) (e : h ≡ headerBytes g) where
-  all-begun : Begun old (docketOf x) o₆ a₆
+    {g : Header} (d : g ≡ headerFor (sizesIn v x)) (e : h ≡ headerBytes g) where
+  all-begun : Begun old (docketOf v x) o₆ a₆
   unfolding docketOf
   all-begun =
       let b₀ : Begun old [] old 0 = record { is = refl; end = refl } in
@@ -289,7 +309,7 @@ module _ (x : Sections) (old : List ℕ) {h o₁ o₂ o₃ o₄ o₅ o₆ : List
       let b₄ = begun-more old (h ++ x .states ++ x .rules) (x .layers) o₃ o₄ a₃ a₄ b₃ e₄ d₄ in
       let b₅ = begun-more old (h ++ x .states ++ x .rules ++ x .layers) (x .nodes) o₄ o₅ a₄ a₅ b₄ e₅ d₅ in
       let b₆ = begun-more old (h ++ x .states ++ x .rules ++ x .layers ++ x .nodes) (x .leaves) o₅ o₆ a₅ a₆ b₅ e₆ d₆ in
-      let head : h ≡ headerBytes (headerFor (sizesIn x)) = e ∙ ap headerBytes d in
+      let head : h ≡ headerBytes (headerFor (sizesIn v x)) = e ∙ ap headerBytes d in
       subst (λ l. Begun old l o₆ a₆)
       (append-assoc (h ++ x .states ++ x .rules ++ x .layers) (x .nodes) (x .leaves)
       ∙ append-assoc (h ++ x .states ++ x .rules) (x .layers) (x .nodes ++ x .leaves)
@@ -298,58 +318,90 @@ module _ (x : Sections) (old : List ℕ) {h o₁ o₂ o₃ o₄ o₅ o₆ : List
       ∙ ap (λ l. l ++ (x .states ++ (x .rules ++ (x .layers ++ (x .nodes ++ x .leaves))))) head)
       b₆
 
-  pub docket-put : (a₆ ≡ length (docketOf x)) × (o₆ ≡ docketOf x ++ drop (length (docketOf x)) old)
+  pub docket-put : (a₆ ≡ length (docketOf v x)) × (o₆ ≡ docketOf v x ++ drop (length (docketOf v x)) old)
   docket-put = (all-begun .end, all-begun .is)
 
 -- ---- The answer
 
--- The tests found o.
-module _ (x : Sections) (out : List ℕ) (o : Tested) (e : o ≡ writeTested x (length out)) where
-  answer : writeOf x (length out) ≡ asWritten (length (docketOf x)) o
-  unfolding writeOf writeTested
-  answer = sym (ap (asWritten (length (docketOf x))) e ∙ judge-map (asWritten (length (docketOf x))) failed Passed (writeTests x (length out)))
+-- A known version is small; t says whether it is unknown.
+pub version-small : (v : ℕ) (t : Bool) → t ≡ wrongVersion v → t ≡ false → v < 65536
+version-small v t f known = ⊎-elim (λ (e : v ≡ 1). omega arith) (λ (e : v ≡ 2). omega arith) (version-passes v .0 (sym f ∙ known))
+
+-- The version is unknown.
+module _ (v : ℕ) (x : Sections) (out : List ℕ) (t : Bool) (f : t ≡ wrongVersion v) where
+  version-is : t ≡ true → writeOf v x (length out) ≡ Refused (refusal 2 0)
+  unfolding writeOf
+  version-is unknown = sym (only-hit (λ n k. Refused (refusal n k)) (Total (length (docketOf v x))) (Refused (refusal 2 0)) 2 _ t _ f unknown refl)
+
+  pub version-answer : t ≡ true → Refused (refusal 2 0) ≡ writeOf v x (length out)
+  version-answer unknown = sym (version-is unknown)
+
+  pub version-output : t ≡ true → out ≡ outputOf v x out
+  unfolding outputOf
+  version-output unknown = sym (ap (written v x out) (version-is unknown))
+
+-- The version that the counts z hold is that of the writer.
+pub sizes-self : (v : ℕ) (n : Lengths) (z : Sizes) → z ≡ cutSizes (sizesFor v n) → z ≡ cutSizes (sizesFor (z .version) n)
+sizes-self v n z g = g ∙ ap (λ u. cutSizes (sizesFor u n)) (sym (ap (λ (y : Sizes). y .version) g))
+
+-- The version is known; n are the lengths, z the version and the counts, and the tests behind that of the version found o.
+module _ (v : ℕ) (x : Sections) (out : List ℕ) (t : Bool) (f : t ≡ wrongVersion v) (known : t ≡ false) (n : Lengths) (z : Sizes)
+    (d : n ≡ lengthsOf x) (g : z ≡ cutSizes (sizesFor v n)) (o : Tested) (e : o ≡ partsTested (z .version) x (length out)) where
+  version-same : z .version ≡ v
+  version-same = ap (λ (y : Sizes). y .version) g
+
+  tested-as : o ≡ partsTested v x (length out)
+  tested-as = e ∙ ap (λ u. partsTested u x (length out)) version-same
+
+  answer : writeOf v x (length out) ≡ asWritten (length (docketOf v x)) o
+  unfolding writeOf partsTested
+  answer =
+      sym (only-pass (λ n k. Refused (refusal n k)) (Total (length (docketOf v x))) _ 2 _ t _ f known
+      (ap (asWritten (length (docketOf v x))) tested-as ∙ judge-map (asWritten (length (docketOf v x))) failed Passed (partTests v x (length out))))
 
   module _ (p : o ≡ Passed) where
-    total : writeOf x (length out) ≡ Total (length (docketOf x))
-    total = answer ∙ ap (asWritten (length (docketOf x))) p
+    total : writeOf v x (length out) ≡ Total (length (docketOf v x))
+    total = answer ∙ ap (asWritten (length (docketOf v x))) p
 
-    passes : Passes (writeTests x (length out))
-    unfolding writeTested
-    passes = judge-passes failed Passed Passed (λ n k. failed-not-passed) (writeTests x (length out)) (sym e ∙ p)
+    passes : Passes (partTests v x (length out))
+    unfolding partsTested
+    passes = judge-passes failed Passed Passed (λ n k. failed-not-passed) (partTests v x (length out)) (sym tested-as ∙ p)
 
-    within : Limits (sizesIn x)
-    within = limits (sizesIn x) (passes .1 .0)
+    within : Limits (sizesIn v x)
+    within = limits (sizesIn v x) (passes .1 .0)
 
-    -- n are the lengths, and z the counts.
-    module _ (n : Lengths) (z : Sizes) (d : n ≡ lengthsOf x) (f : z ≡ cutSizes (sizesFor n)) where
-      sizes : z ≡ sizesIn x
-      sizes = f ∙ ap (λ m. cutSizes (sizesFor m)) d ∙ cut-same (sizesIn x) within
+    sizes : z ≡ sizesIn v x
+    sizes = g ∙ ap (λ m. cutSizes (sizesFor v m)) d ∙ cut-same (sizesIn v x) within
 
-      pub fits-limits : Limits z
-      fits-limits = subst Limits (sym sizes) within
-
-      pub fits-header : (h : Header) → h ≡ headerFor z → h ≡ headerFor (sizesIn x)
-      fits-header h g = g ∙ ap headerFor sizes
+    pub fits-limits : Limits z
+    fits-limits = subst Limits (sym sizes) within
 
     pub has-room : 24 + length (x .states) + length (x .rules) + length (x .layers) + length (x .nodes) + length (x .leaves) ≤ length out
-    has-room = omega (arith, docket-length x, ltb-false (length out) (length (docketOf x)) (room-passes x (length out) passes))
+    has-room = omega (arith, docket-length v x, ltb-false (length out) (length (docketOf v x)) (room-passes v x (length out) passes))
 
-    pub written-answer : (n : ℕ) → n ≡ length (docketOf x) → Total n ≡ writeOf x (length out)
-    written-answer n h = ap Total h ∙ sym total
+    module _ (h : Header) (i : h ≡ headerFor z) where
+      header-version : h .sizes .version ≡ v
+      header-version = ap (λ (k : Header). k .sizes .version) i ∙ version-same
 
-    pub written-output : (l : List ℕ) → l ≡ docketOf x ++ drop (length (docketOf x)) out → l ≡ outputOf x out
-    unfolding outputOf
-    written-output l h = h ∙ sym (ap (written x out) total)
+      pub fits-header : h ≡ headerFor (sizesIn (h .sizes .version) x)
+      fits-header = i ∙ ap headerFor sizes ∙ ap (λ u. headerFor (sizesIn u x)) (sym header-version)
+
+      pub written-answer : (k : ℕ) → k ≡ length (docketOf (h .sizes .version) x) → Total k ≡ writeOf v x (length out)
+      written-answer k j = ap Total (j ∙ ap (λ u. length (docketOf u x)) header-version) ∙ sym total
+
+      pub written-output : (l : List ℕ) → l ≡ docketOf (h .sizes .version) x ++ drop (length (docketOf (h .sizes .version) x)) out → l ≡ outputOf v x out
+      unfolding outputOf
+      written-output l j = j ∙ ap (λ u. docketOf u x ++ drop (length (docketOf u x)) out) header-version ∙ sym (ap (written v x out) total)
 
   module _ (q : Refusal) (p : o ≡ Failed q) where
-    refusal-is : writeOf x (length out) ≡ Refused q
-    refusal-is = answer ∙ ap (asWritten (length (docketOf x))) p
+    refusal-is : writeOf v x (length out) ≡ Refused q
+    refusal-is = answer ∙ ap (asWritten (length (docketOf v x))) p
 
-    pub refused-answer : Refused q ≡ writeOf x (length out)
+    pub refused-answer : Refused q ≡ writeOf v x (length out)
     refused-answer = sym refusal-is
 
-    pub refused-output : out ≡ outputOf x out
+    pub refused-output : out ≡ outputOf v x out
     unfolding outputOf
-    refused-output = sym (ap (written x out) refusal-is)
+    refused-output = sym (ap (written v x out) refusal-is)
 
-pub ruleset answers = (written-answer, written-output, refused-answer, refused-output)
+pub ruleset answers = (version-answer, version-output, written-answer, written-output, refused-answer, refused-output)

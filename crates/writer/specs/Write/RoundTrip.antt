@@ -1,6 +1,7 @@
 -- What is written reads as the same sections, and the sections of a docket write its bytes. Assumes nothing.
 use mathlib.Core.Path.{_≡_, refl, sym, ap, _∙_, subst}
 use mathlib.Core.List.{List, [], _∷_, _++_}
+use mathlib.Core.Logic.{⊎-elim}
 use Prim.Native.Nat.{ℕ, zero, suc, _+_, _*_, _/_, _%_, _≤_, _<_}
 use native.Mathlib.Nat.{mul-div-cancel-left, mod-eq-of-lt}
 use native.Mathlib.Omega.{arith}
@@ -12,12 +13,13 @@ use Rattle.theory.specs.Below.{Clear}
 use Rattle.theory.specs.Judge.{Passes}
 use Rattle.theory.specs.Judge.Laws.{passes-both}
 use Rattle.format.specs.Bytes.{le16, section}
-use Rattle.format.specs.Format.{headerOf, Sections, sections, sectionsOf, statesLength, rulesLength, layersLength, nodesLength, leavesLength}
+use Rattle.format.specs.Code.Laws.{width-some}
+use Rattle.format.specs.Format.{headerOf, Sections, sections, sectionsOf, stateWidth, statesLength, rulesLength, layersLength, nodesLength, leavesLength}
 use Rattle.format.specs.declared.Sizes.{Sizes}
 use Rattle.format.specs.declared.Header.{Header}
 use Rattle.format.specs.declared.Offsets.{Offsets}
 use Rattle.shape.specs.Shape.{nth, countFaults, sectionTests}
-use Rattle.shape.specs.Sound.{Limits, Laid, SoundSections, SoundShape}
+use Rattle.shape.specs.Sound.{IsVersion, Limits, Laid, SoundSections, SoundShape}
 use Rattle.shape.specs.Sound.Laws.{sound-sections, sound-passes, sound-lengths}
 use Rattle.shape.specs.Code.{Lengths}
 use Rattle.leaf.specs.Leaf.{badLeaf, leafTest}
@@ -31,14 +33,14 @@ low-high : (n : ℕ) → n < 65536 → n % 256 + 256 * (n / 256 % 256) ≡ n
 low-high n h = omega arith
 
 -- All numbers of the header of sizes within their limits have 16 bits.
-module _ (z : Sizes) (one : z .version ≡ 1) (L : Limits z) where
+module _ (z : Sizes) (some : z .version < 65536) (L : Limits z) where
   header-read : (rest : List ℕ) → headerOf (headerBytes (headerFor z) ++ rest) ≡ headerFor z
   unfolding headerBytes le16
   header-read rest =
       let at = offsetsFor z in
       let most = total-most z L in
       rw (
-        low-high (z .version) (omega (arith, one)),
+        low-high (z .version) some,
         low-high (z .states) (omega (arith, L .states-most)),
         low-high (z .rules) (omega (arith, L .rules-most)),
         low-high (z .layers) (omega (arith, L .layers-most)),
@@ -98,26 +100,29 @@ module _ (z : Sizes) (f s r l n v : List ℕ) (head : length f ≡ 24) (ss : len
       ∙ take-all (leavesLength z) v (omega arith) in
       rw (es, er, el, en, ev)
 
--- The docket of x.
-module _ (x : Sections) (w : WholeRecords x) (L : Limits (sizesIn x)) where
-  some : 0 < length (x .states)
+-- The docket of x, of version 1 or 2.
+module _ (v : ℕ) (x : Sections) (known : IsVersion v) (w : WholeRecords v x) (L : Limits (sizesIn v x)) where
+  some : 0 < sizesIn v x .states
   some = omega (arith, L .states-least)
 
-  pub header-same : headerOf (docketOf x) ≡ headerFor (sizesIn x)
-  unfolding docketOf
-  header-same = header-read (sizesIn x) refl L (x .states ++ (x .rules ++ (x .layers ++ (x .nodes ++ x .leaves))))
+  small : v < 65536
+  small = ⊎-elim (λ (e : v ≡ 1). omega arith) (λ (e : v ≡ 2). omega arith) known
 
-  pub sections-same : sectionsOf (docketOf x) (headerFor (sizesIn x)) ≡ x
+  pub header-same : headerOf (docketOf v x) ≡ headerFor (sizesIn v x)
+  unfolding docketOf
+  header-same = header-read (sizesIn v x) small L (x .states ++ (x .rules ++ (x .layers ++ (x .nodes ++ x .leaves))))
+
+  pub sections-same : sectionsOf (docketOf v x) (headerFor (sizesIn v x)) ≡ x
   unfolding docketOf
   sections-same =
-      sections-behind (sizesIn x) (headerBytes (headerFor (sizesIn x))) (x .states) (x .rules) (x .layers) (x .nodes) (x .leaves)
-      (header-length (headerFor (sizesIn x))) refl (w .rules) (w .layers some) (w .nodes) (w .leaves some)
+      sections-behind (sizesIn v x) (headerBytes (headerFor (sizesIn v x))) (x .states) (x .rules) (x .layers) (x .nodes) (x .leaves)
+      (header-length (headerFor (sizesIn v x))) (w .states) (w .rules) (w .layers some) (w .nodes) (w .leaves some)
 
   -- It has a sound shape, where its records do.
-  pub written-sound : Passes (sectionTests (sizesIn x) x) → SoundShape (docketOf x) (headerFor (sizesIn x))
+  pub written-sound : Passes (sectionTests (sizesIn v x) x) → SoundShape (docketOf v x) (headerFor (sizesIn v x))
   written-sound p = record {
     header = sym header-same;
-    version = refl;
+    version = known;
     limits = L;
     laid = record {
       states = refl;
@@ -126,9 +131,9 @@ module _ (x : Sections) (w : WholeRecords x) (L : Limits (sizesIn x)) where
       nodes = refl;
       leaves = refl;
       total = refl;
-      whole = sym (total-length x w some);
+      whole = sym (total-length v x w some);
     };
-    sections = subst (SoundSections (sizesIn x)) (sym sections-same) (sound-sections (sizesIn x) x p);
+    sections = subst (SoundSections (sizesIn v x)) (sym sections-same) (sound-sections (sizesIn v x) x p);
   }
 
 -- ---- Writing what was read
@@ -173,8 +178,11 @@ section-join b rest k n j e d =
 records-of : (w q n : ℕ) → 0 < w → n ≡ w * q → records w n ≡ q
 records-of w q n h e = rw (ne-eqb w 0 (λ z. omega arith), e) (mul-div-cancel-left q h)
 
--- The sections x of a docket b with header h.
+-- The sections x of a docket b with header h, of version v.
 module _ (b : List ℕ) (h : Header) (g : SoundShape b h) where
+  abbrev v : ℕ
+  v = h .sizes .version
+
   abbrev x : Sections
   x = sectionsOf b h
 
@@ -187,18 +195,20 @@ module _ (b : List ℕ) (h : Header) (g : SoundShape b h) where
   L : Limits (h .sizes)
   L = g .limits
 
-  pub sizes-same : sizesIn x ≡ h .sizes
+  pub sizes-same : sizesIn v x ≡ h .sizes
   sizes-same =
       let z = h .sizes in
+      let s : records (stateWidth v) (length (x .states)) ≡ z .states = records-of (stateWidth v) (z .states) _ (width-some v .0) (N .states) in
       let wide : 0 < 4 * z .states = omega (arith, L .states-least) in
       let r : records 5 (length (x .rules)) ≡ z .rules = records-of 5 (z .rules) _ (omega arith) (N .rules) in
       let l : records (4 * z .states) (length (x .layers)) ≡ z .layers = records-of (4 * z .states) (z .layers) _ wide (omega (arith, N .layers)) in
       let n : records 12 (length (x .nodes)) ≡ z .nodes = records-of 12 (z .nodes) _ (omega arith) (N .nodes) in
       let k : records (4 * z .states) (length (x .leaves)) ≡ z .leaves = records-of (4 * z .states) (z .leaves) _ wide (omega (arith, N .leaves)) in
-      rw (N .states, r, l, n, k, ← g .version)
+      rw (s, r, l, n, k)
 
-  whole : WholeRecords x
+  whole : WholeRecords v x
   whole = record {
+    states = N .states ∙ ap (λ y. statesLength y) (sym sizes-same);
     rules = N .rules ∙ ap (λ y. rulesLength y) (sym sizes-same);
     layers = λ _. N .layers ∙ ap (λ y. layersLength y) (sym sizes-same);
     nodes = N .nodes ∙ ap (λ y. nodesLength y) (sym sizes-same);
@@ -219,7 +229,7 @@ module _ (b : List ℕ) (h : Header) (g : SoundShape b h) where
       section-join b (x .rules ++ (x .layers ++ (x .nodes ++ x .leaves))) (at .states) (statesLength z) (at .rules) (D .rules) r
       ∙ ap (λ i. drop i b) (D .states)
 
-  pub written-again : AreBytes b → docketOf x ≡ b
+  pub written-again : AreBytes b → docketOf v x ≡ b
   unfolding docketOf
   written-again bytes =
       ap (λ z. headerBytes (headerFor z) ++ (x .states ++ (x .rules ++ (x .layers ++ (x .nodes ++ x .leaves))))) sizes-same
@@ -229,16 +239,19 @@ module _ (b : List ℕ) (h : Header) (g : SoundShape b h) where
 
   -- All tests pass.
   pub again-passes : AreBytes b → Clear (badLeaf (h .sizes) (x .leaves)) (h .sizes .leaves) → (room : ℕ) → length b ≤ room
-      → Passes (writeTests x room)
+      → Passes (writeTests v x room)
   again-passes bytes clear room fits =
       let shape = sound-passes b h g in
       let z = h .sizes in (
-        whole-clear x whole,
+        shape .1 .0,
         (
-          subst (λ y. Clear (nth (countFaults y)) 5) (sym sizes-same) (shape .1 .1 .0),
-          passes-both (recordTests (sizesIn x) x) (roomTest x room ∷ [])
-              (subst (λ y. Passes (recordTests y x)) (sym sizes-same)
-              (passes-both (sectionTests z x) (leafTest z (x .leaves) ∷ []) (shape .1 .1 .1 .1) (clear, tt)))
-              ((λ k l. le-ltb room (length (docketOf x)) (omega (arith, ap length (written-again bytes)))), tt),
+          whole-clear v x whole,
+          (
+            subst (λ y. Clear (nth (countFaults y)) 5) (sym sizes-same) (shape .1 .1 .0),
+            passes-both (recordTests (sizesIn v x) x) (roomTest v x room ∷ [])
+                (subst (λ y. Passes (recordTests y x)) (sym sizes-same)
+                (passes-both (sectionTests z x) (leafTest z (x .leaves) ∷ []) (shape .1 .1 .1 .1) (clear, tt)))
+                ((λ k l. le-ltb room (length (docketOf v x)) (omega (arith, ap length (written-again bytes)))), tt),
+          ),
         ),
       )

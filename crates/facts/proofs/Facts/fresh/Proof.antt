@@ -1,4 +1,4 @@
--- Of the states those that are no inputs are absent at the start, and all other words are empty.
+-- Two words are filled: of the states those that are no inputs and have no fixed agents, and those that have some.
 use Rattle.facts.specs.Code.Laws.{fresh-words}
 use borrow.Author.Needs.{needs}
 use Rattle.facts.proofs.Facts.fresh.Statement.{statement}
@@ -10,8 +10,11 @@ full-requires c κs = search needs
 without-requires : tie.Need-without-requires
 without-requires c κs = search needs
 
+without-requires-2 : tie.Need-without-requires-2
+without-requires-2 c κs = search needs
+
 returns : tie.Need-returns
 returns c = search (fresh-words, needs)
 
 pub fresh-spec : {M : Type 1} → statement M
-fresh-spec = tie.close (tie.spec full-requires without-requires returns)
+fresh-spec = tie.close (tie.spec full-requires without-requires without-requires-2 returns)

@@ -2,11 +2,12 @@
  * Writes the docket of one of the two tables below, checks it and saves it, all through docket.h.
  *
  *     cc -std=c99 -Iinclude examples/table_editor.c target/staticlib/libdocket.a -o table_editor
- *     ./table_editor TABLE FILE [NUMBER [ROOM]]
+ *     ./table_editor [-r] TABLE FILE [NUMBER [ROOM]]
  *
  * TABLE is majority, of version 1, or quorum, of version 2. NUMBER takes the place of one number of the table: in
  * majority of state B's weight in layer 0, in quorum of the number of fixed workers in state K0. ROOM is the number of
- * bytes lent for the docket.
+ * bytes lent for the docket. With -r the rules are listed from the last to the first: in version 1 they may stand in any
+ * order, in version 2 in one alone, which is that of the table below.
  * Exit status: 0 the docket was saved, 1 something was refused, 2 bad usage or a file that cannot be written.
  */
 #include <inttypes.h>
@@ -189,11 +190,17 @@ static void put_states(struct part *part, const struct table *table)
     }
 }
 
-static void put_rules(struct part *part, const struct table *table)
+/* The number that rule r of the table has in the docket; the other way round too, as reversing twice changes nothing. */
+static size_t rule_number(const struct table *table, int reversed, size_t r)
+{
+    return reversed ? table->rules - 1 - r : r;
+}
+
+static void put_rules(struct part *part, const struct table *table, int reversed)
 {
     for (size_t r = 0; r < table->rules; r++)
         for (size_t field = 0; field < 5; field++)
-            put(part, table->rule[r][field], 1);
+            put(part, table->rule[rule_number(table, reversed, r)][field], 1);
 }
 
 static void put_layers(struct part *part, const struct table *table)
@@ -202,12 +209,16 @@ static void put_layers(struct part *part, const struct table *table)
         put(part, table->layer_weight[i], 4);
 }
 
-static void put_nodes(struct part *part, const struct table *table)
+/* A standstill node names a rule, so its argument follows the order of the rules. */
+static void put_nodes(struct part *part, const struct table *table, int reversed)
 {
     for (size_t n = 0; n < table->nodes; n++) {
+        uint64_t argument = table->node[n].argument;
+        if (table->node[n].kind == STANDSTILL)
+            argument = rule_number(table, reversed, argument);
         put(part, table->node[n].kind, 1);
         put(part, table->node[n].party, 1);
-        put(part, table->node[n].argument, 2);
+        put(part, argument, 2);
         put(part, table->node[n].set, 8);
     }
 }
@@ -250,13 +261,13 @@ static int say_refused(const char *who, uint32_t number, uint32_t place)
     return REFUSED;
 }
 
-static int write_docket(const struct table *table, uint8_t *docket, size_t room, uint64_t *total)
+static int write_docket(const struct table *table, int reversed, uint8_t *docket, size_t room, uint64_t *total)
 {
     static struct part states, rules, layers, nodes, leaves;
     put_states(&states, table);
-    put_rules(&rules, table);
+    put_rules(&rules, table, reversed);
     put_layers(&layers, table);
-    put_nodes(&nodes, table);
+    put_nodes(&nodes, table, reversed);
     put_leaves(&leaves, table);
     uint64_t code = docket_write(table->version, states.bytes, states.len, rules.bytes, rules.len, layers.bytes,
                                  layers.len, nodes.bytes, nodes.len, leaves.bytes, leaves.len, docket, room, total);
@@ -291,8 +302,11 @@ int main(int argc, char **argv)
     static uint8_t docket[DOCKET_MAX_BYTES];
     uint32_t room = sizeof docket;
     uint64_t total = 0;
+    int reversed = argc > 1 && strcmp(argv[1], "-r") == 0;
+    argc -= reversed;
+    argv += reversed;
     if (argc < 3 || argc > 5) {
-        fprintf(stderr, "usage: table_editor TABLE FILE [NUMBER [ROOM]]\n");
+        fprintf(stderr, "usage: table_editor [-r] TABLE FILE [NUMBER [ROOM]]\n");
         return TROUBLE;
     }
     const struct table *table = find_table(argv[1]);
@@ -302,7 +316,7 @@ int main(int argc, char **argv)
         return trouble(argv[3], table->bits == 32 ? "not a number of 32 bits" : "not a number of 16 bits");
     if (argc > 4 && !read_number(argv[4], sizeof docket, &room))
         return trouble(argv[4], "not a number up to 65535");
-    int status = write_docket(table, docket, room, &total);
+    int status = write_docket(table, reversed, docket, room, &total);
     if (status == DONE)
         status = check(docket, total);
     if (fflush(stdout) != 0 || ferror(stdout))

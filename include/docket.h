@@ -12,7 +12,7 @@
  *
  * Dockets are of version 1 or 2; every function takes both. A docket of version 2 has a number of fixed workers for each
  * state, which every start has there; in version 1 this number is 0 for every state. Counts are of all workers, the fixed
- * ones among them.
+ * ones among them. In version 2 the rules stand in ascending order by layer, then by p, q, p', q'; in version 1 in any.
  *
  * What a caller hands over. A docket is a pointer to its bytes and their number; any bytes may be given, at any address.
  * The parts and the output of docket_write are handed over in the same way. Counts are one uint32_t for each state of
@@ -26,10 +26,10 @@
  *
  * What a function returns: 0 where it did its work, else a refusal, which has a number and a place. There is a table of
  * tests for the check, for the calls of the machine and for docket_write. The tests are made in the order of the table,
- * from above, each over all its places before the next begins: the first test that fails gives the number, and the
- * lowest place at which it fails the place. Tests 12 and 13 alone are made together, node by node in the order of the
- * file: at each node 12 before 13, and the first node at which one fails ends the check. So a 13 at an earlier node
- * comes before a 12 at a later one.
+ * from above, and not in that of their numbers, each over all its places before the next begins: the first test that
+ * fails gives the number, and the lowest place at which it fails the place. Tests 12 and 13 alone are made together,
+ * node by node in the order of the file: at each node 12 before 13, and the first node at which one fails ends the
+ * check. So a 13 at an earlier node comes before a 12 at a later one.
  * docket_check and docket_figures return the number times 65,536 plus the place; the others, where a place can be any
  * 32-bit rule number, the number times 2 to the power 32 plus the place. So each has its own pair of functions below
  * that take a refusal apart. A refused call changes neither counts nor output, and neither reads nor writes behind a
@@ -51,6 +51,8 @@
  *                                 workers; S: no state is an input, with or without fixed workers
  *   6       rule                  a state is S or more, p > q, p' > q', the two pairs are equal, or the layer is L or more
  *   7       rule                  an earlier rule has the same p, q, p' and q', whatever its layer
+ *   14      rule                  version 2 only: it is not after the rule before it, by layer, then p, q, p', q'; an
+ *                                 equal rule is 7, also where it stands next to its double
  *   8       layer                 no rule is in it, or a weight is over 1,000,000
  *   9       rule                  the weights of its layer do not fall: lowering (FORMAT.md, 4.3)
  *   10      rule                  it can make a lower layer act again: handover (FORMAT.md, 4.3)
@@ -58,6 +60,9 @@
  *   12      node, or N            a bad field, a depth over 40 (the root has depth 1), or a node left over;
  *                                 N: the nodes ran out (FORMAT.md, 4.4)
  *   13      node                  its ground does not hold (FORMAT.md, 4.4)
+ *
+ * 14 is tried straight after 7 and before 8, though its number is larger: "tests 1 to 8" are all rows down to that of 8,
+ * so 14 is among them, and among "5 to 8" and "1 to 13".
  *
  * Calls of the machine make tests 1 to 8, then those of the following that apply, in this order:
  *
@@ -68,8 +73,8 @@
  *   23      rule number given     step and can-act: it is R or more
  *   24      rule number given     step: the rule cannot act
  *
- * docket_write makes tests 2, 31, 3, 5, 6, 7, 8, 11 and 30, in this order: 2 is its first test and 30 its last. Part 0
- * is the states, 1 the rules, 2 the layers, 3 the nodes and 4 the leaves; S, R, L, N and K are here the numbers of
+ * docket_write makes tests 2, 31, 3, 5, 6, 7, 14, 8, 11 and 30, in this order: 2 is its first test and 30 its last. Part
+ * 0 is the states, 1 the rules, 2 the layers, 3 the nodes and 4 the leaves; S, R, L, N and K are here the numbers of
  * records in the parts, and L and K are 0 where S is 0.
  *
  *   2       0                     the version given is neither 1 nor 2
@@ -91,7 +96,7 @@
 extern "C" {
 #endif
 
-#define DOCKET_VERSION "0.5.0"   /* of this header and its library, not of a docket */
+#define DOCKET_VERSION "0.6.0"   /* of this header and its library, not of a docket */
 #define DOCKET_MAX_BYTES 65535   /* a longer file is refused with 1, 0; so read at most one byte more */
 #define DOCKET_MAX_STATES 64     /* counts for every docket fit an array of so many */
 #define DOCKET_STACK 65536       /* bytes of stack that are enough for every function */
@@ -133,10 +138,13 @@ uint64_t docket_run(const uint8_t *docket, size_t docket_len, uint32_t *counts, 
 
 /* Writes a docket of the given version, 1 or 2. It is lent the parts, which are the bytes of the five sections of that
    version without a header, and the output, out_len bytes at out. The versions differ in the states: 1 byte each in
-   version 1, and 3 in version 2, where the number of fixed workers follows. The lengths of the parts give the counts; the
-   function makes the header with its offsets. Where it returns 0, the docket is the first *total bytes of the output, and
-   the bytes from there on stay as they were. *total is 24 plus the five lengths; an output of DOCKET_MAX_BYTES is always
-   enough. A part with no bytes has length 0 and any pointer but null.
+   version 1, and 3 in version 2, where the number of fixed workers follows; and in the rules, which are to be in order
+   in version 2. The function does not sort: it writes the rules as they are lent, or refuses them with 14. Nodes of kind
+   3 name rules by their numbers in the part, so put the rules in order before you number them.
+   The lengths of the parts give the counts; the function makes the header with its offsets. Where it returns 0, the
+   docket is the first *total bytes of the output, and the bytes from there on stay as they were. *total is 24 plus the
+   five lengths; an output of DOCKET_MAX_BYTES is always enough. A part with no bytes has length 0 and any pointer but
+   null.
    The version and the parts of a docket that passes tests 1 to 8 and 11 give the same bytes again. The ladder and the
    tree are not judged (tests 9, 10, 12 and 13): call docket_check on what was written. */
 uint64_t docket_write(uint32_t version, const uint8_t *states, size_t states_len, const uint8_t *rules,
@@ -185,6 +193,8 @@ static inline const char *docket_refusal_text(uint32_t number)
         return "A node has a bad field, is too deep or is left over, or the nodes ran out.";
     case 13:
         return "The ground of a node does not hold.";
+    case 14:
+        return "A rule does not stand after the one before it, in the order that version 2 asks for.";
     case 20:
         return "There is not one count for each state.";
     case 21:

@@ -185,7 +185,8 @@ fn checks() -> Vec<(String, Vec<u8>)> {
         .collect()
 }
 
-/// Dockets of version 2; those whose names are without fixed agents are dockets of version 1 in version 2.
+/// Dockets of version 2, with their rules in order; those whose names are without fixed agents are dockets of version 1 in
+/// version 2.
 fn fixed_checks() -> Vec<(String, Docket)> {
     let none = |docket: Docket| fixed::with_fixed(docket, &[]);
     let numbers: Vec<i64> = (0..17).map(|value| 1 + 50 * value).collect();
@@ -285,7 +286,7 @@ fn run_case<'a>(name: &str, docket: &'a [u8], counts: &'a [u32]) -> Case<'a> {
     }
 }
 
-/// A step that is refused for its rule number: tests 1 to 8, 20 and 21, and no more.
+/// A step that is refused for its rule number: tests 1 to 8, 14, 20 and 21, and no more.
 fn refused_case<'a>(name: &str, docket: &'a [u8], counts: &'a [u32]) -> Case<'a> {
     let [mut first, mut second, mut third] = [counts.to_vec(), counts.to_vec(), counts.to_vec()];
     Case {
@@ -302,27 +303,33 @@ fn refused_case<'a>(name: &str, docket: &'a [u8], counts: &'a [u32]) -> Case<'a>
 
 /// Starts, and groups in which one of the fixed agents is missing or, in version 1, one worker is in no input.
 fn starts() -> Vec<(String, Vec<u8>, Vec<u32>)> {
-    let all = fixed::with_fixed(make::still(64), &[1000; 64]).bytes();
-    let (first, last) = (
-        make::last_no_input().bytes(),
-        fixed::with_fixed(make::last_no_input(), &[9; 64]).bytes(),
-    );
-    let group = |count: u32, last: u32| [vec![count; 63], vec![last]].concat();
-    vec![
-        ("start test, 64 states".into(), first.clone(), group(1000, 0)),
-        ("start test refused, 64 states".into(), first, group(1000, 1)),
-        (
-            "start test, v2, 64 states, 64,000 fixed agents".into(),
-            all,
-            group(1000, 1000),
-        ),
-        (
-            "start test, v2, 64 states, the last no input".into(),
-            last.clone(),
-            group(1000, 9),
-        ),
-        ("start test refused, v2, 64 states".into(), last, group(1000, 8)),
+    let all = fixed::with_fixed(make::still(64), &[1000; 64]);
+    let first = make::last_no_input();
+    let last = fixed::with_fixed(make::last_no_input(), &[9; 64]);
+    let [old, new] = ordered_rules();
+    let group = |last: u32| [vec![1000; 63], vec![last]].concat();
+    let only_first = [vec![2_000], vec![0; 63]].concat();
+    [
+        ("start test, 64 states", &first, group(0)),
+        ("start test refused, 64 states", &first, group(1)),
+        ("start test, v2, 64 states, 64,000 fixed agents", &all, group(1000)),
+        ("start test, v2, 64 states, the last no input", &last, group(9)),
+        ("start test refused, v2, 64 states", &last, group(8)),
+        ("start test, 64 states, 256 rules in order", &old, only_first.clone()),
+        ("start test, v2, 64 states, 256 rules in order", &new, only_first),
     ]
+    .map(|(name, docket, counts)| (name.into(), docket.bytes(), counts))
+    .into()
+}
+
+/// 256 rules in order, so that test 14 looks at every rule, in version 1 and in version 2.
+fn ordered_rules() -> [Docket; 2] {
+    let new = fixed::with_fixed(make::layered(64, 256, 16, 6, 1), &[]);
+    let old = Docket {
+        version: 1,
+        ..new.clone()
+    };
+    [old, new]
 }
 
 fn start_case<'a>(name: &str, docket: &'a [u8], counts: &'a [u32]) -> Case<'a> {

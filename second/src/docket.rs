@@ -1,4 +1,4 @@
-//! The parsed docket, tests 1 to 8, the check as a whole, and the file of a docket.
+//! The parsed docket, tests 1 to 8, of which 14 is one, the check as a whole, and the file of a docket.
 
 use crate::{ladder, tree};
 use std::slice::Chunks;
@@ -48,6 +48,14 @@ pub struct Rule {
     pub layer: usize,
 }
 
+impl Rule {
+    /// What the rules of version 2 are ordered by: the layer, then p, q, p' and q'.
+    pub fn key(&self) -> [usize; 5] {
+        let ([p, q], [p1, q1]) = (self.before, self.after);
+        [self.layer, p, q, p1, q1]
+    }
+}
+
 /// A node of the tree; `set[i]` is bit i of its set field, and says in kinds 5 and 6 that the set names state i.
 #[derive(Clone, Copy, Debug, PartialEq, Eq)]
 pub struct Node {
@@ -95,7 +103,7 @@ pub(crate) fn together(weights: &[i64], pair: [usize; 2]) -> i64 {
     weights[pair[0]] + weights[pair[1]]
 }
 
-/// Tests 1 to 13.
+/// Tests 1 to 14.
 pub fn check(docket: &[u8]) -> Result<Figures, Refusal> {
     let docket = parse(docket)?;
     ladder::lowering_test(&docket)?;
@@ -138,13 +146,13 @@ pub fn line(docket: &[u8]) -> String {
     }
 }
 
-/// Tests 1 to 8. Nodes and leaves are read and not tested.
+/// Tests 1 to 8 and 14. Nodes and leaves are read and not tested.
 pub fn parse(docket: &[u8]) -> Result<Docket, Refusal> {
     let (version, sections) = sections(docket)?;
     read(version, sections)
 }
 
-/// Tests 5 to 8 on the bytes of the five sections, which pass test 3.
+/// Tests 5, 6, 7, 14 and 8, in this order, on the bytes of the five sections, which pass test 3.
 pub(crate) fn read(version: u32, sections: [&[u8]; 5]) -> Result<Docket, Refusal> {
     let [states, rules, layers, nodes, leaves] = sections;
     let records = states.chunks(state_length(version));
@@ -160,6 +168,7 @@ pub(crate) fn read(version: u32, sections: [&[u8]; 5]) -> Result<Docket, Refusal
     };
     rule_test(&parsed)?;
     equal_rule_test(&parsed)?;
+    order_test(&parsed)?;
     layer_test(&parsed)?;
     Ok(parsed)
 }
@@ -262,6 +271,16 @@ fn equal_rule_test(docket: &Docket) -> Result<(), Refusal> {
         }
     }
     Ok(())
+}
+
+/// Test 14: in version 2 each rule stands after the one before it.
+fn order_test(docket: &Docket) -> Result<(), Refusal> {
+    let mut neighbours = docket.rules.windows(2);
+    let wrong = |two: &[Rule]| two[1].key() <= two[0].key();
+    match neighbours.position(wrong) {
+        Some(earlier) if docket.version == 2 => refuse(14, earlier + 1),
+        _ => Ok(()),
+    }
 }
 
 /// Test 8.
@@ -565,6 +584,79 @@ mod tests {
         }
     }
 
+    /// The lines of these rules in version 1 and in version 2. There are four states of verdict 1, so that a tree of one
+    /// node closes, and the weights of every layer fall from state to state.
+    fn in_both_versions(rules: &str, layers: usize) -> [String; 2] {
+        let old = docket("3 3 3 3", rules, &"3 2 1 0;".repeat(layers), "1 1 0 0");
+        let new = with_fixed(old.clone(), [0; 4]);
+        [old, new].map(|docket| line(&docket.bytes()))
+    }
+
+    /// Each of these pairs of rules is in order by one of the numbers, which is the first that differs; a later number
+    /// goes the other way, where there is one. Exchanged, the second rule is refused in version 2.
+    #[test]
+    fn order_of_the_rules() {
+        for (number, one, other, layers) in [
+            ("layer", "1 1 2 2 0", "0 3 2 3 1", 2),
+            ("p", "0 3 2 3 0", "1 1 2 2 0", 1),
+            ("q", "0 1 2 3 0", "0 2 1 3 0", 1),
+            ("p'", "0 1 1 3 0", "0 1 2 2 0", 1),
+            ("q'", "0 1 2 2 0", "0 1 2 3 0", 1),
+        ] {
+            let accepted = format!("accepted 4 2 {layers} 1 {} 0\n", 3 * layers);
+            let in_order = in_both_versions(&format!("{one}; {other}"), layers);
+            assert_eq!(in_order, [&*accepted, &*accepted], "{number}");
+            let exchanged = in_both_versions(&format!("{other}; {one}"), layers);
+            assert_eq!(exchanged, [&*accepted, "refused 14 1\n"], "{number}");
+        }
+    }
+
+    /// The place is the lowest rule that is not after the one before it.
+    #[test]
+    fn places_out_of_order() {
+        let rules = ["0 1 1 3 0", "0 1 2 2 0", "0 1 2 3 0", "0 2 1 3 0", "1 1 2 2 0"];
+        let said = |order: [usize; 5]| in_both_versions(&order.map(|rule| rules[rule]).join("; "), 1);
+        let accepted = "accepted 4 5 1 1 3 0\n";
+        assert_eq!(said([0, 1, 2, 3, 4]), [accepted; 2]);
+        for (order, place) in [
+            ([1, 0, 2, 3, 4], 1),
+            ([0, 2, 1, 3, 4], 2),
+            ([0, 1, 3, 2, 4], 3),
+            ([0, 1, 2, 4, 3], 4),
+            ([4, 1, 2, 3, 0], 1),
+            ([1, 2, 3, 4, 0], 4),
+            ([4, 0, 1, 2, 3], 1),
+            ([0, 3, 2, 4, 1], 2),
+            ([4, 3, 2, 1, 0], 1),
+        ] {
+            let refused = format!("refused 14 {place}\n");
+            assert_eq!(said(order), [accepted, &refused], "{order:?}");
+        }
+    }
+
+    /// Test 14 comes after tests 6 and 7 and before test 8, whatever the places.
+    #[test]
+    fn order_before_and_after_other_tests() {
+        for (rules, layers, version_1, version_2) in [
+            ("0 2 1 3 0; 0 1 1 3 0; 0 1 0 1 0", 1, "refused 6 2\n", "refused 6 2\n"),
+            ("0 1 0 1 0; 0 2 1 3 0; 0 1 1 3 0", 1, "refused 6 0\n", "refused 6 0\n"),
+            ("0 2 1 3 1; 0 1 1 3 0", 1, "refused 6 0\n", "refused 6 0\n"),
+            ("0 1 1 3 0; 0 1 1 3 0", 1, "refused 7 1\n", "refused 7 1\n"),
+            ("0 1 1 3 0; 0 1 1 3 1", 2, "refused 7 1\n", "refused 7 1\n"),
+            ("0 1 1 3 1; 0 1 1 3 0", 2, "refused 7 1\n", "refused 7 1\n"),
+            ("0 2 1 3 0; 0 1 1 3 0; 0 1 1 3 0", 1, "refused 7 2\n", "refused 7 2\n"),
+            ("0 1 1 3 0; 0 1 1 3 1; 0 2 1 3 0", 2, "refused 7 1\n", "refused 7 1\n"),
+            ("0 1 1 3 0; 0 2 1 3 0; 0 1 1 3 1", 2, "refused 7 2\n", "refused 7 2\n"),
+            ("0 2 1 3 1; 0 1 1 3 1", 2, "refused 8 0\n", "refused 14 1\n"),
+            ("0 2 1 3 0; 0 1 1 3 0", 2, "refused 8 1\n", "refused 14 1\n"),
+            ("0 1 1 3 1; 0 2 1 3 1", 2, "refused 8 0\n", "refused 8 0\n"),
+            ("0 2 1 3 0; 0 1 0 0 0", 1, "refused 9 1\n", "refused 14 1\n"),
+            ("0 1 0 0 0; 0 2 1 3 0", 1, "refused 9 0\n", "refused 9 0\n"),
+        ] {
+            assert_eq!(in_both_versions(rules, layers), [version_1, version_2], "{rules}");
+        }
+    }
+
     /// The version is 1 or 2; the other numbers have one of these in their low or their high byte. A docket of one
     /// version has the wrong offsets for the other, from that of the rules on.
     #[test]
@@ -632,12 +724,13 @@ mod tests {
         assert_eq!(said([0, 1], [3, 1001]), "refused 5 1\n");
     }
 
-    /// A docket of version 1 says the same in version 2, with no fixed agents, whether it is accepted or refused.
+    /// A docket of version 1 whose rules are in order says the same in version 2, with no fixed agents, whether it is
+    /// accepted or refused.
     #[test]
     fn version_2_without_fixed_agents() {
         let same_pairs = docket("2 3", "0 1 0 1 0", "1 0", TREE);
         let no_input = docket("0 1", "0 1 1 1 0", "1 0", TREE);
-        for old in [broadcast(TREE), majority(), exchanged(), parity(), same_pairs, no_input] {
+        for old in [broadcast(TREE), majority(), parity(), same_pairs, no_input] {
             let new = Docket {
                 version: 2,
                 ..old.clone()
@@ -645,6 +738,8 @@ mod tests {
             assert_eq!(new.bytes().len(), old.bytes().len() + 2 * old.states.len());
             assert_eq!(check(&new.bytes()), check(&old.bytes()));
         }
+        assert_eq!(check(&exchanged().bytes()), refuse(10, 0));
+        assert_eq!(check(&with_fixed(exchanged(), [0; 4]).bytes()), refuse(14, 2));
     }
 
     #[test]

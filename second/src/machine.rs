@@ -1,4 +1,4 @@
-//! The machine calls. Each makes tests 1 to 8 on the docket, then 20 and 21 on the counts.
+//! The machine calls. Each makes tests 1 to 8 and 14 on the docket, then 20 and 21 on the counts.
 
 use crate::docket::{parse, refuse, Docket, Refusal, Rule};
 
@@ -78,7 +78,7 @@ pub fn run(docket: &[u8], counts: &mut [u32], limit: u32) -> Result<Ran, Refusal
     Ok(Ran { steps, rests: true })
 }
 
-/// Tests 1 to 8, 20 and 21.
+/// Tests 1 to 8, 14, 20 and 21.
 fn docket_for(docket: &[u8], counts: &[u32]) -> Result<Docket, Refusal> {
     let docket = parse(docket)?;
     if counts.len() != docket.states.len() {
@@ -258,6 +258,26 @@ mod tests {
         assert_eq!(is_standstill(&docket.bytes(), &[1, 0, 2, 0]), Ok(true));
         assert_eq!(can_act(&docket.bytes(), &[1, 1, 0, 0], 0), Ok(true));
         assert_eq!(stepped(&docket, [1, 1, 0, 0], 0), [0, 0, 1, 1]);
+    }
+
+    /// Every call makes test 14 in version 2, before its own tests; in version 1 none does.
+    #[test]
+    fn rules_out_of_order() {
+        let (old, new) = (exchanged().bytes(), with_fixed(exchanged(), [0; 4]).bytes());
+        for counts in [vec![1, 1, 0, 0], vec![0; 4], vec![1]] {
+            let (mut stepped, mut ran) = (counts.clone(), counts.clone());
+            assert_eq!(start_test(&new, &counts), refuse(14, 2));
+            assert_eq!(can_act(&new, &counts, 0), refuse(14, 2));
+            assert_eq!(can_act(&new, &counts, 4), refuse(14, 2));
+            assert_eq!(is_standstill(&new, &counts), refuse(14, 2));
+            assert_eq!(verdict(&new, &counts), refuse(14, 2));
+            assert_eq!(step(&new, &mut stepped, 0), refuse(14, 2));
+            assert_eq!(step(&new, &mut stepped, 4), refuse(14, 2));
+            assert_eq!(run(&new, &mut ran, u32::MAX), refuse(14, 2));
+            assert_eq!((&stepped, &ran), (&counts, &counts));
+        }
+        assert_eq!(start_test(&old, &[1, 1, 0, 0]), Ok(()));
+        assert_eq!(can_act(&old, &[1, 1, 0, 0], 0), Ok(true));
     }
 
     #[test]

@@ -3,8 +3,9 @@
 use crate::docket::{assemble, count_test, read, record_lengths, refuse, state_length, version_test, Refusal};
 use crate::tree::leaf_weight_test;
 
-/// Tests 2, 31, 3, 5 to 8, 11 and 30 on the version and the parts, which are the states, rules, layers, nodes and leaves;
-/// then writes their docket to the beginning of the output and hands back its length. A refusal writes nothing.
+/// Tests 2, 31, 3, 5, 6, 7, 14, 8, 11 and 30, in this order, on the version and the parts, which are the states, rules,
+/// layers, nodes and leaves; then writes their docket to the beginning of the output and hands back its length. A refusal
+/// writes nothing.
 pub fn write(version: u32, parts: [&[u8]; 5], output: &mut [u8]) -> Result<usize, Refusal> {
     version_test(version)?;
     let counts = record_counts(version, parts)?;
@@ -208,5 +209,32 @@ mod tests {
         assert_eq!(said([&[2, 3], &rule, &good, &node, &leaves], 0), refuse(11, 1));
         assert_eq!(said([&[2, 3], &rule, &good, &node, &[0; 8]], 0), refuse(30, 0));
         assert_eq!(said([&[2, 3], &rule, &good, &node, &[0; 8]], 59), Ok(59));
+    }
+
+    /// In version 2 the rules are written in their order or not at all: test 14 stands between 7 and 8.
+    #[test]
+    fn rules_out_of_order() {
+        let (states, weights, node) = ([2, 0, 0, 3, 0, 0], [1, 0, 0, 0, 0, 0, 0, 0], [255; 12]);
+        let (heavy, leaf) = ([255; 8], [0x11, 0x27, 0, 0, 0, 0, 0, 0]);
+        let (first, second, bad) = ([0, 0, 1, 1, 0], [0, 1, 1, 1, 0], [0, 1, 0, 1, 0]);
+        let in_order = [first, second].concat();
+        let wrong = [second, first].concat();
+        let two = |states: &[u8], rules: &[u8], layers: &[u8], leaves: &[u8], room| {
+            told(2, [states, rules, layers, &node, leaves], room)
+        };
+        assert_eq!(two(&states, &in_order, &weights, &[], 60), Ok(60));
+        assert_eq!(two(&states, &wrong, &weights, &[], 60), refuse(14, 1));
+        assert_eq!(two(&states, &wrong, &heavy, &leaf, 0), refuse(14, 1));
+        assert_eq!(
+            two(&states, &[second, first, bad].concat(), &heavy, &leaf, 0),
+            refuse(6, 2)
+        );
+        assert_eq!(
+            two(&states, &[second, first, second].concat(), &heavy, &leaf, 0),
+            refuse(7, 2)
+        );
+        assert_eq!(two(&[2, 0, 0, 7, 0, 0], &wrong, &heavy, &leaf, 0), refuse(5, 1));
+        assert_eq!(two(&states, &in_order, &heavy, &leaf, 0), refuse(8, 0));
+        assert_eq!(said([&[2, 3], &wrong, &weights, &node, &[]], 56), Ok(56));
     }
 }

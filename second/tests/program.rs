@@ -43,7 +43,7 @@ fn corpus() {
         );
         assert_eq!(text(&said.stderr), "", "{}", path.display());
     }
-    assert!(files >= 105, "{files} dockets in the corpus");
+    assert!(files >= 133, "{files} dockets in the corpus");
 }
 
 /// A read that fails is not taken for the end of the file.

@@ -75,6 +75,7 @@ static struct region counts_regions[KINDS];
 static uint64_t *no_access;    /* room for answers, in a page that can be neither read nor written */
 static uint64_t calls_made[FUNCTIONS];
 static uint64_t calls_not_refused[FUNCTIONS];
+static uint64_t calls_refused_14[FUNCTIONS];
 
 static void lend(struct lent *lent, const char *variant, const uint8_t *bytes, size_t len)
 {
@@ -127,9 +128,19 @@ static uint64_t make(const struct call *call, const uint8_t *docket, size_t len,
 static int follows(uint64_t code, uint64_t checked)
 {
     uint32_t number = docket_check_number(checked);
-    if (number >= 1 && number <= 8)
+    if (is_of_tests_1_to_8(number))
         return docket_call_number(code) == number && docket_call_place(code) == docket_check_place(checked);
     return code == 0 || (docket_call_number(code) >= 20 && docket_call_number(code) <= 24);
+}
+
+/* Counts a call by the code that it returned. */
+static void count(enum function function, uint64_t code)
+{
+    int checks = function == CHECK || function == CHECK_FIGURES;
+    uint32_t number = checks ? docket_check_number(code) : docket_call_number(code);
+    calls_made[function]++;
+    calls_not_refused[function] += code == 0;
+    calls_refused_14[function] += number == 14;
 }
 
 /* Makes the call on one kind of copies, and checks that it wrote only what it may. */
@@ -141,8 +152,7 @@ static struct outcome try_kind(struct file *file, const struct lent *lent, const
     size_t size = counts->len * sizeof(uint32_t);
     memcpy(counts->copy[kind], counts->before, size);
     uint64_t code = make(call, lent->copy[kind], lent->len, counts->copy[kind], counts->len, &out[1], &out[3]);
-    calls_made[call->function]++;
-    calls_not_refused[call->function] += code == 0;
+    count(call->function, code);
 
     int may_move = code == 0 && (call->function == STEP || call->function == RUN);
     expect(file, lent, call, may_move || memcmp(counts->copy[kind], counts->before, size) == 0, "counts changed");
@@ -183,8 +193,7 @@ static void try_figures(struct file *file, const struct lent *lent, uint64_t fig
         const uint64_t before[FIGURES] = {OLD, OLD, OLD, OLD, OLD, OLD};
         uint64_t code = docket_figures(lent->copy[k], lent->len, out + 1);
         int untouched = memcmp(out + 1, before, sizeof before) == 0;
-        calls_made[CHECK_FIGURES]++;
-        calls_not_refused[CHECK_FIGURES] += code == 0;
+        count(CHECK_FIGURES, code);
         expect(file, lent, &call, code == lent->checked, "another code than that of docket_check");
         expect(file, lent, &call, code == 0 || untouched, "a refused call wrote figures");
         expect(file, lent, &call, out[0] == EDGE && out[FIGURES + 1] == EDGE, "wrote beside the figures");
@@ -245,7 +254,7 @@ static int starts(const struct file *file, const struct lent *lent, size_t len, 
 {
     uint32_t number = docket_check_number(lent->checked);
     size_t state = last_fixed(file);
-    if ((number >= 1 && number <= 8) || len != file->states || filling > ONE_MISSING)
+    if (is_of_tests_1_to_8(number) || len != file->states || filling > ONE_MISSING)
         return 1;
     if (filling == START || state == file->states)
         return code == 0;
@@ -337,6 +346,26 @@ static void try_truncations(struct file *file)
     }
 }
 
+/* Exchanges two rules that stand next to each other, at the first place, in the middle and at the last one. In version 2,
+   where the file passes tests 1 to 8, test 14 names the second of the two; in version 1 it refuses nothing. */
+static void try_exchanged(struct file *file, uint64_t checked)
+{
+    static uint8_t bytes[MOST_LENT];
+    static const struct call check = {CHECK, 0};
+    size_t rules = get16(file->bytes, 4);
+    int ordered = get16(file->bytes, 0) == 2;
+    if (is_of_tests_1_to_8(docket_check_number(checked)) || rules < 2)
+        return;
+    for (size_t which = 0; which < EXCHANGES; which++) {
+        memcpy(bytes, file->bytes, file->len);
+        size_t later = exchange_rules(bytes + get16(bytes, 14), rules, which);
+        const struct lent lent = {.variant = "two rules exchanged", .len = file->len};
+        uint64_t code = try_docket(file, lent.variant, bytes, file->len).code;
+        int as_named = ordered ? code == 14 * 65536 + later : docket_check_number(code) != 14;
+        expect(file, &lent, &check, as_named, "not the refusal that the order has");
+    }
+}
+
 /* One byte more, and as many more as a length of 16 bits does not show. */
 static void try_longer(struct file *file)
 {
@@ -417,19 +446,22 @@ static int try_file(const char *name)
     }
     try_truncations(&file);
     try_longer(&file);
+    try_exchanged(&file, said.code);
     return file.failures == 0;
 }
 
-/* Prints how many calls were made. Returns 1 where every function was at least once not refused, else 0. */
+/* Prints how many calls were made. Returns 1 where every function was at least once not refused and at least once refused
+   with 14, else 0. */
 static int say_calls(void)
 {
     uint64_t made = 0, not_refused = 0;
     int all_worked = 1;
     for (int f = 0; f < FUNCTIONS; f++) {
-        printf("%s: %" PRIu64 " calls, %" PRIu64 " not refused\n", names[f], calls_made[f], calls_not_refused[f]);
+        printf("%s: %" PRIu64 " calls, %" PRIu64 " not refused, %" PRIu64 " refused with 14\n", names[f], calls_made[f],
+               calls_not_refused[f], calls_refused_14[f]);
         made += calls_made[f];
         not_refused += calls_not_refused[f];
-        all_worked = all_worked && calls_not_refused[f] > 0;
+        all_worked = all_worked && calls_not_refused[f] > 0 && calls_refused_14[f] > 0;
     }
     printf("%" PRIu64 " calls, %" PRIu64 " not refused\n", made, not_refused);
     return all_worked;
@@ -446,7 +478,7 @@ int main(int argc, char **argv)
     for (int i = 1; i < argc; i++)
         passed += try_file(argv[i]);
     if (!say_calls()) {
-        printf("a function was refused in every call\n");
+        printf("a function was refused in every call, or never with 14\n");
         return 1;
     }
     printf("%d passed, %d failed\n", passed, argc - 1 - passed);

@@ -1,4 +1,5 @@
-/* What boundary.c and writing.c share: the memory that calls are lent, docket files, and the texts of refusals. */
+/* What boundary.c, writing.c and stack.c share: the memory that calls are lent, docket files, the numbers of tests 1 to
+   8, rules exchanged, and the texts of refusals. */
 #ifndef SHARED_H
 #define SHARED_H
 
@@ -11,6 +12,11 @@
 #include <unistd.h>
 
 #include "docket.h"
+
+enum {
+    RULE = 5,     /* bytes of the record of a rule */
+    EXCHANGES = 3 /* how many pairs of neighbours exchange_rules can exchange */
+};
 
 /* The kinds of copies that a call is made on: blocks of the heap of exactly the size, for AddressSanitizer; blocks that
    end where a page without access begins; and blocks that begin where such a page ends. */
@@ -82,6 +88,22 @@ static inline size_t get16(const uint8_t *bytes, size_t at) { return bytes[at] +
 
 /* The length of the record of a state. */
 static inline size_t state_length(size_t version) { return version == 2 ? 3 : 1; }
+
+/* Whether a refusal of this number is one of tests 1 to 8, to which 14 belongs. */
+static inline int is_of_tests_1_to_8(uint32_t number) { return (number >= 1 && number <= 8) || number == 14; }
+
+/* Exchanges two rules that stand next to each other: at the first place, in the middle or at the last one, where which
+   is 0, 1 or 2. There are at least two rules. Returns the number of the second of the two. */
+static inline size_t exchange_rules(uint8_t *records, size_t rules, size_t which)
+{
+    uint8_t copy[RULE];
+    size_t rule = which * (rules - 2) / 2;
+    uint8_t *first = records + RULE * rule, *second = first + RULE;
+    memcpy(copy, first, RULE);
+    memcpy(first, second, RULE);
+    memcpy(second, copy, RULE);
+    return rule + 1;
+}
 
 /* Whether the number of a refusal has a sentence of its own. */
 static inline int has_text(uint32_t number)

@@ -6,14 +6,9 @@
  *
  * The last line is '1 passed, 0 failed' where no call used more than DOCKET_STACK bytes.
  */
-#define _XOPEN_SOURCE 700
-#include <stdint.h>
-#include <stdio.h>
-#include <stdlib.h>
-#include <string.h>
-#include <ucontext.h>
+#include "shared.h"
 
-#include "docket.h"
+#include <ucontext.h>
 
 enum { STACK = 1 << 20, PATTERN = 0xA5, MOST_BYTES = DOCKET_MAX_BYTES + 1 };
 
@@ -43,7 +38,7 @@ static void call_machine(void)
     docket_run(docket, docket_len, counts, states, 100, &first, &second);
 }
 
-static size_t offset(size_t section) { return docket[12 + 2 * section] + 256u * docket[13 + 2 * section]; }
+static size_t offset(size_t section) { return get16(docket, 12 + 2 * section); }
 
 static size_t length(size_t section) { return offset(section + 1) - offset(section); }
 
@@ -80,16 +75,10 @@ int main(int argc, char **argv)
 {
     size_t check = 0, machine = 0, writer = 0;
     for (int i = 1; i < argc; i++) {
-        FILE *f = fopen(argv[i], "rb");
-        if (f == NULL) {
-            perror(argv[i]);
-            return 2;
-        }
-        docket_len = fread(docket, 1, sizeof docket, f);
-        fclose(f);
+        docket_len = read_bytes(argv[i], docket, sizeof docket);
         check = greater(check, used_by(call_check));
         uint32_t number = docket_check_number(docket_check(docket, docket_len));
-        if (number == 0 || number > 8)
+        if (!is_of_tests_1_to_8(number))
             machine = greater(machine, used_by(call_machine));
         if (number == 0 || number > 4)
             writer = greater(writer, used_by(call_writer));

@@ -55,7 +55,7 @@ static struct region part_regions[KINDS][PARTS];
 static struct region output_regions[KINDS];
 static struct region total_regions[KINDS];
 static void *no_access;
-static uint64_t calls_made, calls_not_refused;
+static uint64_t calls_made, calls_not_refused, calls_refused_14;
 
 static void expect(struct file *file, size_t room, int holds, const char *what)
 {
@@ -104,7 +104,7 @@ static int is_docket(const struct parts *parts, const uint8_t *output)
         at += parts->len[p];
     }
     uint32_t number = docket_check_number(docket_check(output, at));
-    return get16(output, 22) == at && (number == 0 || number > 8) && number != 11;
+    return get16(output, 22) == at && !is_of_tests_1_to_8(number) && number != 11;
 }
 
 /* Makes the call on one kind of copies, and checks that it wrote what it may and nothing else. */
@@ -118,6 +118,7 @@ static uint64_t try_kind(struct file *file, const struct parts *parts, const str
     uint64_t code = make(lent, output->bytes, output->len, output->total);
     calls_made++;
     calls_not_refused += code == 0;
+    calls_refused_14 += docket_call_number(code) == 14;
     if (code != 0) {
         expect(file, output->len, has_text(docket_call_number(code)), "a refusal without a text");
         expect(file, output->len, *output->total == OLD, "a refused call wrote the total");
@@ -213,14 +214,14 @@ static uint64_t try_parts(struct file *file, const char *variant, const struct p
     return said;
 }
 
-/* Whether the writer may say this of the docket's own parts: a refusal of tests 5 to 8 and 11 is that of docket_check,
-   which looks for 9 and 10 before 11. */
+/* Whether the writer may say this of the docket's own parts: a refusal of tests 5 to 8, 14 and 11 is that of
+   docket_check, which looks for 9 and 10 before 11. */
 static int follows(uint64_t said, uint64_t checked)
 {
     uint32_t number = docket_check_number(checked);
     if (number == 9 || number == 10)
         return said == 0 || docket_call_number(said) == 11;
-    if (number == 0 || number > 11)
+    if (number == 0 || number == 12 || number == 13)
         return said == 0;
     return said == refusal(number, docket_check_place(checked));
 }
@@ -264,6 +265,23 @@ static void try_variants(struct file *file, struct parts *parts, size_t p)
     }
 }
 
+/* Two rules exchanged that stand next to each other, at the first place, in the middle and at the last one: in version 2
+   test 14 names the second of the two, where the parts are otherwise written; in version 1 they are written still. They
+   are afterwards as they were. */
+static void try_exchanged(struct file *file, struct parts *parts, uint64_t said)
+{
+    size_t rules = parts->len[1] / RULE;
+    if (said != 0 || rules < 2)
+        return;
+    for (size_t which = 0; which < EXCHANGES; which++) {
+        size_t later = exchange_rules(parts->bytes[1], rules, which);
+        uint64_t code = try_parts(file, "two rules exchanged", parts);
+        uint64_t expected = parts->version == 2 ? refusal(14, later) : 0;
+        expect(file, file->len, code == expected, "not the refusal that the order has");
+        exchange_rules(parts->bytes[1], rules, which);
+    }
+}
+
 /* The other version and some that there are not, which test 2 refuses; it is afterwards as it was. */
 static void try_versions(struct file *file, struct parts *parts)
 {
@@ -301,6 +319,7 @@ static int try_file(const char *name)
     expect(&file, file.len, said != 0 || memcmp(last, file.bytes, file.len) == 0, "not the file's own bytes");
     for (size_t p = 0; p < PARTS; p++)
         try_variants(&file, &parts, p);
+    try_exchanged(&file, &parts, said);
     try_versions(&file, &parts);
     return file.failures == 0;
 }
@@ -376,9 +395,9 @@ int main(int argc, char **argv)
         passed += result == 1;
         failed += result == 0;
     }
-    printf("docket_write: %" PRIu64 " calls, %" PRIu64 " not refused\n", calls_made, calls_not_refused);
-    if (calls_not_refused == 0)
-        failed++;
+    printf("docket_write: %" PRIu64 " calls, %" PRIu64 " not refused, %" PRIu64 " refused with 14\n", calls_made,
+           calls_not_refused, calls_refused_14);
+    failed += calls_not_refused == 0 || calls_refused_14 == 0;
     printf("%d passed, %d failed\n", passed, failed);
     return failed == 0 ? 0 : 1;
 }

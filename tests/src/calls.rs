@@ -12,6 +12,25 @@ pub enum Call {
     Run(u32),
 }
 
+impl Call {
+    /// The call without its numbers.
+    pub fn name(self) -> &'static str {
+        match self {
+            Call::StartTest => "start test",
+            Call::CanAct(_) => "can act",
+            Call::IsStandstill => "standstill",
+            Call::Verdict => "verdict",
+            Call::Step(_) => "step",
+            Call::Run(_) => "run",
+        }
+    }
+}
+
+/// Whether a refusal of this number is one of tests 1 to 8, to which 14 belongs.
+pub fn is_of_tests_1_to_8(number: u32) -> bool {
+    matches!(number, 1..=8 | 14)
+}
+
 /// What an answer holds before the call, and still holds after a refusal.
 pub const UNTOUCHED: u64 = 0x5555_aaaa_5555_aaaa;
 
@@ -34,7 +53,7 @@ impl Said {
         Said { code: 0, answers: all }
     }
 
-    fn refused(refusal: Refusal) -> Said {
+    pub fn refused(refusal: Refusal) -> Said {
         let code = (u64::from(refusal.number) << 32) + u64::from(refusal.place);
         Said {
             code,
@@ -75,10 +94,12 @@ fn ran_numbers(ran: Ran) -> [u64; 2] {
 
 /// What the check of the second implementation says, as docket_check says it.
 pub fn check_code(docket: &[u8]) -> u64 {
-    match second::check(docket) {
-        Ok(_) => 0,
-        Err(refusal) => u64::from(refusal.number) * 65_536 + u64::from(refusal.place),
-    }
+    second::check(docket).map_or_else(refusal_code, |_| 0)
+}
+
+/// A refusal as docket_check returns it.
+pub fn refusal_code(refusal: Refusal) -> u64 {
+    u64::from(refusal.number) * 65_536 + u64::from(refusal.place)
 }
 
 /// What docket_figures says, by the second implementation: the code of the check, and the six figures where it accepts.

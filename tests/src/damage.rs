@@ -1,13 +1,14 @@
 //! Changes to dockets: those that keep a docket accepted, and faults of every kind.
 
-use crate::make::{bits, node, rule};
+use crate::make::{bits, node, reorder_rules, rule, sort_rules};
 use crate::random::Random;
 use second::{Docket, Leaf, Node, Rule, State};
 
 // ---- Changes that keep a docket accepted
 
 /// The same protocol and certificate written in another way: without fixed agents in the other version, states and rules
-/// numbered anew, weights raised, moduli multiplied, leaves that no node names.
+/// numbered anew, weights raised, moduli multiplied, leaves that no node names. In version 2 the rules are in order, in
+/// version 1 now and then.
 pub fn rewritten(docket: &Docket, random: &mut Random) -> Docket {
     let mut other = docket.clone();
     if random.chance(1, 4) && docket.states.iter().all(|state| state.fixed == 0) {
@@ -39,6 +40,9 @@ pub fn rewritten(docket: &Docket, random: &mut Random) -> Docket {
                 y2: weights(random),
             });
         }
+    }
+    if other.version == 2 || random.chance(1, 3) {
+        sort_rules(&mut other);
     }
     other
 }
@@ -114,10 +118,7 @@ fn children(docket: &Docket, node: &Node) -> usize {
 fn renumber_rules(docket: &mut Docket, random: &mut Random) {
     let mut order: Vec<usize> = (0..docket.rules.len()).collect();
     random.shuffle(&mut order);
-    docket.rules = order.iter().map(|&r| docket.rules[r]).collect();
-    for node in docket.nodes.iter_mut().filter(|node| node.kind == 3) {
-        node.argument = order.iter().position(|&r| r == node.argument).unwrap_or(node.argument);
-    }
+    reorder_rules(docket, &order);
 }
 
 /// Multiplies a layer's weights and adds to them, up to the limit.
@@ -171,12 +172,19 @@ fn only_modulus(docket: &Docket, leaf: usize) -> Option<u64> {
 
 // ---- Faults
 
-/// The docket's bytes with one to three faults of random kinds.
+/// The docket's bytes with one or several faults of random kinds. In version 2 the rules are most often put in order
+/// again, so that later tests find the faults. Now and then the order is then broken too, in either version.
 pub fn damaged(docket: &Docket, random: &mut Random) -> Vec<u8> {
     let raw = random.chance(1, 5);
     let mut other = docket.clone();
     for _ in 0..random.below(4) / 2 + usize::from(!raw) {
         damage_record(&mut other, random);
+    }
+    if other.version == 2 && random.chance(7, 8) {
+        sort_rules(&mut other);
+    }
+    if random.chance(1, 8) {
+        break_order(&mut other, random);
     }
     let mut bytes = other.bytes();
     if raw {
@@ -190,6 +198,9 @@ pub fn other_fixed(docket: &Docket, random: &mut Random) -> Vec<u8> {
     let mut other = docket.clone();
     for _ in 0..1 + random.below(3) {
         damage_fixed(&mut other, random);
+    }
+    if other.version == 2 {
+        sort_rules(&mut other);
     }
     other.bytes()
 }
@@ -303,6 +314,47 @@ fn damage_order(docket: &mut Docket, random: &mut Random) {
                 .rules
                 .push(copied(rule, random.below(layers), docket.states.len(), random));
         }
+    }
+}
+
+/// Breaks the order of version 2, in one place most often: exchanges two rules that stand next to each other, at the
+/// first place, at the last or at any, or two others; moves a rule; gives one another layer where it stands; or writes
+/// one equal to its neighbour, or nearly so, in the place of the next. In a third of the cases there is another fault.
+fn break_order(docket: &mut Docket, random: &mut Random) {
+    let (count, layers, states) = (docket.rules.len(), docket.weights.len(), docket.states.len());
+    if count < 2 || layers == 0 {
+        return;
+    }
+    let (any, other) = (random.below(count - 1), random.below(count));
+    let at = *random.pick(&[0, any, count - 2]);
+    let [rule, next] = [docket.rules[at], docket.rules[at + 1]];
+    match random.below(6) {
+        0 | 1 => docket.rules.swap(at, at + 1),
+        2 => docket.rules.swap(at, other),
+        3 => {
+            docket.rules.remove(at);
+            docket.rules.insert(other, rule);
+        }
+        4 => docket.rules[at + 1].layer = random.below(layers),
+        _ => docket.rules[at + 1] = copied(rule, next.layer, states, random),
+    }
+    if random.chance(1, 3) {
+        damage_table(docket, random);
+    }
+}
+
+/// A fault that test 6, 7 or 8 finds, most often.
+fn damage_table(docket: &mut Docket, random: &mut Random) {
+    let (at, other) = (random.below(docket.rules.len()), random.below(docket.rules.len()));
+    let (state, layer) = (random.below(docket.states.len()), random.below(docket.weights.len()));
+    let copy = docket.rules[other];
+    let rule = &mut docket.rules[at];
+    match random.below(5) {
+        0 => rule.after = rule.before,
+        1 => rule.layer = docket.weights.len(),
+        2 => (rule.before, rule.after) = (copy.before, copy.after),
+        3 => docket.weights[layer][state] = 1_000_001,
+        _ => docket.weights.push(docket.weights[layer].clone()),
     }
 }
 
@@ -531,6 +583,32 @@ mod tests {
             }
         }
         assert_eq!(met.len(), 8, "{met:?}");
+    }
+
+    /// A broken order is refused with 14 at the first place, in the middle and at the last one; with another fault at an
+    /// earlier or a later rule, or in a layer, tests 6, 7 and 8 are reached too. In version 1 it is no fault.
+    #[test]
+    fn order_is_broken() {
+        let mut random = Random::new(14);
+        let docket = fixed::sum(5, 3, &[0, 2, 3]);
+        let last = docket.rules.len() as u32 - 1;
+        for version in [1, 2] {
+            let mut met = BTreeSet::new();
+            for _ in 0..2000 {
+                let mut other = docket.clone();
+                other.version = version;
+                break_order(&mut other, &mut random);
+                met.extend(
+                    second::parse(&other.bytes())
+                        .err()
+                        .map(|refusal| (refusal.number, refusal.place)),
+                );
+            }
+            let numbers: BTreeSet<u32> = met.iter().map(|(number, _)| *number).collect();
+            let expected: &[u32] = if version == 1 { &[6, 7, 8] } else { &[6, 7, 8, 14] };
+            assert_eq!(numbers, expected.iter().copied().collect());
+            assert!(version == 1 || (1..=last).all(|place| met.contains(&(14, place))));
+        }
     }
 
     /// Damage to fixed agents leads to every limit, in inputs and in others, and to each of the answers that it can give.

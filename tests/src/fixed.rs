@@ -171,11 +171,6 @@ fn versions() -> Vec<Sample> {
             changed(largest(), |d| d.leaves.push(d.leaves[0].clone())),
             "refused 3 4",
         ),
-        (
-            "version 2, rules in any order",
-            changed(with_fixed(make::two_outcomes(), &[2, 1, 0]), |d| d.rules.swap(0, 1)),
-            "accepted 3 3 1 7 1 2",
-        ),
     ]
 }
 

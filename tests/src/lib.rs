@@ -5,6 +5,7 @@ pub mod damage;
 pub mod fixed;
 pub mod make;
 pub mod native;
+pub mod order;
 pub mod outcomes;
 pub mod parts;
 pub mod prover;

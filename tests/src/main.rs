@@ -10,11 +10,11 @@ use second::Docket;
 use std::io::Write;
 use std::path::{Path, PathBuf};
 use std::process::{Command, Stdio};
-use tests::calls::{self, check_code, Call, UNTOUCHED};
+use tests::calls::{self, check_code, Call, Said, UNTOUCHED};
 use tests::make::{fixed, remainder};
 use tests::random::Random;
 use tests::tally::Tally;
-use tests::{damage, fixed as fixed_agents, make, native, outcomes, parts, prover, remainders, samples};
+use tests::{damage, fixed as fixed_agents, make, native, order, outcomes, parts, prover, remainders, samples};
 use tests::{versions, writing};
 
 const THREADS: u64 = 2;
@@ -99,6 +99,11 @@ fn report(tally: &Tally) {
         tally.outcomes, tally.outcome_steps, tally.outcome_runs
     );
     report_fixed(tally);
+    report_order(tally);
+    report_writes(tally);
+}
+
+fn report_writes(tally: &Tally) {
     let writes = &tally.writes;
     println!(
         "{:?} dockets written again by version; {} changed parts, written by version and bytes beyond the total (2: more): {:?}",
@@ -142,6 +147,22 @@ fn report_fixed(tally: &Tally) {
     );
 }
 
+fn report_order(tally: &Tally) {
+    let order = &tally.order;
+    println!(
+        "refusals 14 by the first number that differs (0 layer, then p, q, p', q') and the place: {:?}",
+        order.refused
+    );
+    println!(
+        "rules out of order, with a refusal and its place beside that of 14: {:?}; with a fault of test 8: {}",
+        order.earlier_test, order.test_8
+    );
+    println!(
+        "rules out of order in version 1, by refusal (0: accepted): {:?}; calls refused with 14: {:?}, in version 2 alone: {}",
+        order.version_1, order.calls, order.converted_calls
+    );
+}
+
 fn differences(tally: &Tally) -> Option<String> {
     let shown: Vec<String> = tally.differences.iter().take(5).cloned().collect();
     (!shown.is_empty()).then(|| format!("{} differences\n{}", tally.differences.len(), shown.join("\n")))
@@ -156,11 +177,17 @@ fn run_samples(results: &mut Results) {
         outcomes::lines(),
         remainders::lines(),
         fixed_agents::lines(),
+        order::lines(),
     ];
     for (name, docket, line) in lines.concat() {
         results.expect(name, line_problem(&docket, line));
     }
-    let calls = [samples::calls(), outcomes::calls(), fixed_agents::calls()];
+    let calls = [
+        samples::calls(),
+        outcomes::calls(),
+        fixed_agents::calls(),
+        order::calls(),
+    ];
     for sample in calls.into_iter().flatten() {
         results.expect(sample.name, call_problem(&sample));
     }
@@ -242,7 +269,7 @@ fn unreadable_problem() -> Option<String> {
 }
 
 /// The least number of dockets in the corpus, so that it is seen where some are gone.
-const CORPUS: usize = 105;
+const CORPUS: usize = 133;
 
 /// Runs the corpus; hands back its accepted dockets.
 fn run_corpus(results: &mut Results) -> Vec<Docket> {
@@ -268,7 +295,7 @@ fn run_corpus(results: &mut Results) -> Vec<Docket> {
 }
 
 /// The least number of cases of the writer in the corpus.
-const CASES: usize = 25;
+const CASES: usize = 36;
 
 /// Runs the writer's cases of the corpus.
 fn run_written(results: &mut Results) {
@@ -377,6 +404,8 @@ fn fixed_families(random: &mut Random) -> Vec<Docket> {
         fixed::largest(),
         fixed::layered(64, 3, 100, 20),
         fixed::with_fixed(make::largest(), &[1000]),
+        fixed::with_fixed(make::outcomes(64, 256, 16), &[]),
+        fixed::with_fixed(make::shared_marks(), &[7]),
         fixed::with_fixed(make::still(2), &[]),
         fixed::with_fixed(make::still(64), &[1; 64]),
         fixed::with_fixed(make::last_no_input(), &[[0; 63].as_slice(), &[1000]].concat()),
@@ -472,10 +501,12 @@ fn compare_versions(tally: &mut Tally, docket: &[u8]) {
         return;
     }
     let code = check_code(docket);
-    match versions::problem(docket, code) {
-        Some(problem) => tally.differ(docket, problem),
-        None => *tally.fixed.converted.entry((code / 65_536) as u32).or_default() += 1,
+    if let Some(problem) = versions::problem(docket, code) {
+        return tally.differ(docket, problem);
     }
+    let number = (code / 65_536) as u32;
+    let said = versions::refusal_14(docket, number).map_or(number, |refusal| refusal.number);
+    *tally.fixed.converted.entry(said).or_default() += 1;
 }
 
 fn compare_line(tally: &mut Tally, docket: &[u8]) {
@@ -523,12 +554,8 @@ fn compare_list(tally: &mut Tally, pool: &Pool, random: &mut Random) {
     let converted = versions::in_version_2(&docket).filter(|_| random.chance(1, CONVERTED as usize));
     for _ in 0..1 + random.below(10) {
         let call = random_call(rules, random);
+        let (before, counts_before) = (docket.clone(), counts.clone());
         let mut others = counts.clone();
-        let before = docket.clone();
-        let in_version_2 = converted.as_ref().map(|docket| {
-            let mut counts = counts.clone();
-            (native::say(docket, &mut counts, call), counts)
-        });
         let (native, second) = (
             native::say(&docket, &mut counts, call),
             calls::say(&docket, &mut others, call),
@@ -538,17 +565,43 @@ fn compare_list(tally: &mut Tally, pool: &Pool, random: &mut Random) {
             tally.differ(&docket, what);
             return;
         }
-        if let Some(other) = in_version_2 {
-            if other != (native, counts.clone()) {
-                return tally.differ(&docket, format!("{call:?}: {native:?}, in version 2: {other:?}"));
+        if let Some(other) = &converted {
+            let both = [&docket, other].map(|docket| &docket[..]);
+            if !compare_converted(tally, both, call, &counts_before, (native, &counts)) {
+                return;
             }
-            tally.fixed.converted_calls += 1;
         }
         tally.count_call(&docket, call, &native);
         if let Some(parsed) = &parsed {
             tally.fixed.count_call(parsed, &counts, call, &native);
         }
     }
+}
+
+/// Makes a call in version 2 too, which in version 1 says this and leaves these counts. Hands back whether it says and
+/// leaves what it must.
+fn compare_converted(
+    tally: &mut Tally,
+    [docket, in_version_2]: [&[u8]; 2],
+    call: Call,
+    before: &[u32],
+    (said, counts): (Said, &[u32]),
+) -> bool {
+    let number = said.refusal().map_or(0, |refusal| refusal.number);
+    let refused = versions::refusal_14(docket, number).map(Said::refused);
+    let expected = refused.map_or((said, counts), |refused| (refused, before));
+    let mut after = before.to_vec();
+    let other = native::say(in_version_2, &mut after, call);
+    if (other, &after[..]) != expected {
+        let what = format!("{call:?}: {said:?}, in version 2: {other:?} and {after:?}");
+        tally.differ(docket, what);
+        return false;
+    }
+    match refused {
+        Some(_) => tally.order.converted_calls += 1,
+        None => tally.fixed.converted_calls += 1,
+    }
+    true
 }
 
 /// The counts of a start or nearly so, or any; now and then of a wrong length or of a size at a limit or past it.

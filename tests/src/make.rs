@@ -43,6 +43,22 @@ pub fn rule(before: [usize; 2], after: [usize; 2], layer: usize) -> Rule {
     Rule { before, after, layer }
 }
 
+/// Puts the rules in the order of version 2.
+pub fn sort_rules(docket: &mut Docket) {
+    let mut order: Vec<usize> = (0..docket.rules.len()).collect();
+    order.sort_by_key(|&rule| docket.rules[rule].key());
+    reorder_rules(docket, &order);
+}
+
+/// Puts the rules in another order, given by their numbers. A node that names a rule names the same one afterwards.
+pub fn reorder_rules(docket: &mut Docket, order: &[usize]) {
+    docket.rules = order.iter().map(|&rule| docket.rules[rule]).collect();
+    for node in docket.nodes.iter_mut().filter(|node| node.kind == 3) {
+        let place = order.iter().position(|&rule| rule == node.argument);
+        node.argument = place.unwrap_or(node.argument);
+    }
+}
+
 fn state(verdict: u8, input: bool) -> State {
     State {
         verdict,

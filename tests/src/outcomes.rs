@@ -24,17 +24,21 @@ lowering of one outcome | 0 1 1 1 0; 0 1 0 2 0; 0 2 1 2 0 | refused 9 1
 handover of one outcome | 0 1 1 1 1; 0 1 1 2 1; 0 2 1 2 0 | refused 10 1
 ";
 
-/// The docket of two outcomes with other rules, and as many layers as they need.
+/// The docket of two outcomes with other rules.
 fn table(rules: &str) -> Docket {
+    with_rules(make::two_outcomes(), rules, vec![1, 0, 0])
+}
+
+/// The docket with these rules, and as many layers of these weights as they need.
+pub fn with_rules(mut docket: Docket, rules: &str, weights: Vec<i64>) -> Docket {
     let read = |text: &str| {
         let mut numbers = text.split_whitespace().map(|number| number.parse().expect("a number"));
         let [p, q, p1, q1, layer] = std::array::from_fn(|_| numbers.next().expect("five numbers"));
         rule([p, q], [p1, q1], layer)
     };
-    let mut docket = make::two_outcomes();
     docket.rules = rules.split(';').map(read).collect();
     let layers = docket.rules.iter().map(|rule| rule.layer + 1).max();
-    docket.weights.resize(layers.expect("a rule"), vec![1, 0, 0]);
+    docket.weights = vec![weights; layers.expect("a rule")];
     docket
 }
 

@@ -2,7 +2,7 @@
 //! lower them; a tree of arguments is searched for by traps, siphons, leaves with weights -1 to 1, remainders with small
 //! moduli, and cases.
 
-use crate::make::{self, node, remainder, remainder_node, rule};
+use crate::make::{self, node, remainder, remainder_node, rule, sort_rules};
 use crate::random::Random;
 use second::{Docket, Leaf, Node, State};
 
@@ -37,6 +37,7 @@ pub fn random_fixed(random: &mut Random) -> Option<Docket> {
         _ => random_protocol(random)?,
     };
     docket.version = 2;
+    sort_rules(&mut docket);
     if random.chance(1, 2) {
         change_inputs(&mut docket, random);
     }

@@ -1,10 +1,12 @@
 //! What the compared inputs were, so that the comparison can show that it reached every test.
 
 mod fixed;
+mod order;
 mod writes;
 
-use crate::calls::{Call, Said};
+use crate::calls::{is_of_tests_1_to_8, Call, Said};
 use fixed::Fixed;
+use order::Order;
 use second::Refusal;
 use std::collections::{BTreeMap, BTreeSet};
 use std::fmt::Debug;
@@ -35,6 +37,7 @@ pub struct Tally {
     /// Runs that made a meeting, of tables in which a pair has several rules.
     pub outcome_runs: u64,
     pub fixed: Fixed,
+    pub order: Order,
     pub writes: Writes,
     /// What was said to the inputs on which the two implementations differ.
     pub differences: Vec<String>,
@@ -45,7 +48,7 @@ impl Tally {
     pub fn count_docket(&mut self, docket: &[u8], code: u64) {
         self.dockets += 1;
         let (number, place) = ((code / 65_536) as u32, (code % 65_536) as u32);
-        self.pass_shape += u64::from(number == 0 || number > 8);
+        self.pass_shape += u64::from(!is_of_tests_1_to_8(number));
         if (number == 0 || number > 7) && has_outcomes(docket) {
             *self.outcomes.entry(number).or_default() += 1;
         }
@@ -58,6 +61,7 @@ impl Tally {
             self.count_nodes(docket, number, place as usize);
         }
         self.fixed.count_docket(docket, number, place as usize);
+        self.order.count_docket(docket, number, place as usize);
     }
 
     /// Counts all nodes of an accepted docket, or the one that is refused.
@@ -79,6 +83,7 @@ impl Tally {
     pub fn count_call(&mut self, docket: &[u8], call: Call, said: &Said) {
         self.calls += 1;
         if let Some(refusal) = said.refusal() {
+            self.order.count_call(call, refusal);
             return self.count_refusal(refusal);
         }
         match call {
@@ -118,13 +123,14 @@ impl Tally {
         self.outcome_steps += other.outcome_steps;
         self.outcome_runs += other.outcome_runs;
         self.fixed.merge(other.fixed);
+        self.order.merge(other.order);
         self.writes.merge(other.writes);
         self.differences.extend(other.differences);
     }
 
     /// What the inputs failed to reach: several places with every refusal that has them, some last places, every kind of
     /// node and some moduli, half of the dockets past tests 1 to 8, a tenth of them accepted, tables in which a pair has
-    /// several rules, version 2, and what the writer can say.
+    /// several rules, version 2, rules out of order, and what the writer can say.
     pub fn not_reached(&self) -> Vec<String> {
         let mut missing = places_not_reached(&self.places, &LEAST_PLACES, &LAST_PLACES);
         if 2 * self.pass_shape < self.dockets {
@@ -136,6 +142,7 @@ impl Tally {
         missing.extend(self.nodes_not_reached());
         missing.extend(self.outcomes_not_reached());
         missing.extend(self.fixed.not_reached());
+        missing.extend(self.order.not_reached());
         missing.extend(self.writes.not_reached());
         missing
     }
@@ -164,7 +171,7 @@ impl Tally {
             ("steps".into(), self.outcome_steps, LEAST_OUTCOMES),
             ("runs".into(), self.outcome_runs, LEAST_OUTCOMES),
         ];
-        counts.extend((8..=13).map(|number| (format!("refusals {number}"), dockets(number), LEAST_OUTCOMES)));
+        counts.extend((8..=14).map(|number| (format!("refusals {number}"), dockets(number), LEAST_OUTCOMES)));
         counts.retain(|(_, met, least)| met < least);
         let text = |(what, met, least)| format!("several rules for a pair: {met} {what} of at least {least}");
         counts.into_iter().map(text).collect()
@@ -255,7 +262,7 @@ const MODULI: [(u32, &[u64]); 3] = [
 const LAST_PLACES: [(u32, u32); 4] = [(5, 64), (8, 15), (22, 63), (23, u32::MAX)];
 
 /// How many places must be met with each refusal; one for those whose place is always 0, all for counts and offsets.
-const LEAST_PLACES: [(u32, usize); 18] = [
+const LEAST_PLACES: [(u32, usize); 19] = [
     (1, 1),
     (2, 1),
     (3, 5),
@@ -269,6 +276,7 @@ const LEAST_PLACES: [(u32, usize); 18] = [
     (11, 10),
     (12, 50),
     (13, 50),
+    (14, 50),
     (20, 1),
     (21, 1),
     (22, 10),

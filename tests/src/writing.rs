@@ -1,6 +1,6 @@
 //! The writer: what both implementations say and write is compared, on samples, cases of the corpus and any parts.
 
-use crate::calls::{self, Said};
+use crate::calls::{self, is_of_tests_1_to_8, Said};
 use crate::make::{self, fixed};
 use crate::native;
 use crate::parts::{slices, total, Parts};
@@ -191,7 +191,34 @@ version 2, test 6 before test 7 | fixed 1=0001010100*2+0001000100 | total | refu
 version 2, test 7 before test 8 | fixed 1=0001010100*2 2=ff*8 | total | refused 7 1
 version 2, test 8 before test 11 | fixed 2=ff*8 4=ff7f*4 | total | refused 8 0
 version 2, test 11 before test 30 | fixed 4=1127*4 | 0 | refused 11 0
-version 2, rules in any order | fixed 1=0001010100+0000010100 | total | written
+version 2, rules in order | fixed 1=0000010100+0001010100 | total | written
+version 1, rules in no order | broadcast 1=0001010100+0000010100 | total | written
+rules in no order by the layer | fixed 1=0000010101+0001010100 2=00*16 | total | refused 14 1
+rules in no order by p | fixed 1=0101000000+0001010100 | total | refused 14 1
+rules in no order by q | fixed 1=0001010100+0000010100 | total | refused 14 1
+rules in no order by p' | fixed 1=0001010100+0001000000 | total | refused 14 1
+rules in no order by q' | fixed 1=0101000100+0101000000 | total | refused 14 1
+rules in order by the layer before p | fixed 1=0101000000+0001010101 2=00*16 | total | written
+rules in order by p | fixed 1=0001010100+0101000000 | total | written
+rules in order by q before p' | fixed 1=0000010100+0001000000 | total | written
+rules in order by q' | fixed 1=0101000000+0101000100 | total | written
+the last of three rules in no order | fixed 1=0000010100+0001010100+0000000100 | total | refused 14 2
+the second of three rules in no order | fixed 1=0001010100+0000010100+0101000000 | total | refused 14 1
+equal rules, side by side in two layers, version 2 | fixed 1=0001010100+0001010101 2=00*16 | total | refused 7 1
+equal rules, side by side in falling layers, version 2 | fixed 1=0001010101+0001010100 2=00*16 | total | refused 7 1
+test 2 before test 14 | fixed v=3 1=0001010100+0000010100 | total | refused 2 0
+test 31 before test 14 | fixed 1=0001010100+0000010100 4=00 | total | refused 31 4
+test 3 before test 14 | fixed 1=0001010100+0000010100 3=- | total | refused 3 3
+test 5 before test 14 | fixed 0=020000+03e903 1=0001010100+0000010100 | total | refused 5 1
+test 6 before test 14, at a later rule | fixed 1=0001010100+0000010100+0001000100 | total | refused 6 2
+test 6 before test 14, at an earlier rule | fixed 1=0001000100+0001010100+0000010100 | total | refused 6 0
+test 7 before test 14, at a later rule | fixed 1=0001010100+0000010100+0001010100 | total | refused 7 2
+test 7 before test 14, at an earlier rule | fixed 1=0001010100+0001010101+0000010100 2=00*16 | total | refused 7 1
+test 14 before test 8 | fixed 1=0001010100+0000010100 2=ff*8 | total | refused 14 1
+test 14 before test 8, a layer without a rule | fixed 1=0001010100+0000010100 2=00*16 | total | refused 14 1
+test 14 before test 11 | fixed 1=0001010100+0000010100 4=1127*4 | total | refused 14 1
+test 14 before test 30 | fixed 1=0001010100+0000010100 | 0 | refused 14 1
+test 14 before test 30, one byte too short | fixed 1=0001010100+0000010100 | total-1 | refused 14 1
 version 2, nodes of any bytes | fixed 3=ff*60 | total | written
 ";
 
@@ -236,12 +263,12 @@ fn written_problem(version: u32, parts: [&[u8]; 5], old: &[u8], said: &Said, out
     if said.answers[0] != total as u64 || second::sections(docket) != Ok((version, parts)) {
         return Some(format!("{said:?}, and another version or other parts are written"));
     }
-    let number = native::check(docket) / 65_536;
-    let fails = matches!(number, 1..=8 | 11) || refusal_of(docket).is_some();
+    let number = (native::check(docket) / 65_536) as u32;
+    let fails = is_of_tests_1_to_8(number) || number == 11 || refusal_of(docket).is_some();
     fails.then(|| format!("written, and then refused: {}", second::line(docket)))
 }
 
-/// The first refusal of tests 1 to 8 and 11.
+/// The first refusal of tests 1 to 8, with 14 among them, and 11.
 fn refusal_of(docket: &[u8]) -> Option<Refusal> {
     let parsed = match second::parse(docket) {
         Ok(parsed) => parsed,

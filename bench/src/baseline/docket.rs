@@ -1,4 +1,4 @@
-//! Tests 1 to 8: the header and the plain fields of the sections.
+//! Tests 1 to 8, of which 14 is one: the header and the plain fields of the sections.
 
 use super::{refuse, Refusal};
 use std::ops::RangeInclusive;
@@ -10,7 +10,7 @@ const COUNTS: [RangeInclusive<usize>; 5] = [2..=64, 0..=256, 0..=16, 1..=2048, 0
 const WEIGHT_LIMIT: u32 = 1_000_000;
 const FIXED_LIMIT: u16 = 1000;
 
-/// The sections of a file that passed tests 1 to 8, read in place.
+/// The sections of a file that passed tests 1 to 8 and 14, read in place.
 pub struct Docket<'a> {
     pub states: States<'a>,
     pub rules: &'a [Rule],
@@ -107,10 +107,11 @@ impl<'a> Docket<'a> {
         }
     }
 
-    /// Tests 5 to 8.
+    /// Tests 5, 6, 7, 14 and 8.
     pub fn table_tests(&self) -> Result<(), Refusal> {
         self.state_test()?;
         let used = self.rule_tests()?;
+        self.order_test()?;
         self.layer_test(used)
     }
 
@@ -193,6 +194,22 @@ impl<'a> Docket<'a> {
                 return refuse(7, place);
             }
             *row |= bit;
+        }
+        Ok(())
+    }
+
+    /// Test 14, which version 1 does not have. The bytes of a rule are one number, with the layer foremost.
+    fn order_test(&self) -> Result<(), Refusal> {
+        if let States::One(_) = self.states {
+            return Ok(());
+        }
+        let mut least = 0;
+        for (place, &[p, q, a, b, layer]) in self.rules.iter().enumerate() {
+            let key = u64::from_be_bytes([0, 0, 0, layer, p, q, a, b]);
+            if key < least {
+                return refuse(14, place);
+            }
+            least = key + 1;
         }
         Ok(())
     }

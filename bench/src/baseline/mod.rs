@@ -25,7 +25,7 @@ fn refuse<T>(number: u32, place: usize) -> Result<T, Refusal> {
     })
 }
 
-/// Tests 1 to 13, and the figures W and M as the proved check computes them too.
+/// Tests 1 to 14, and the figures W and M as the proved check computes them too.
 fn check(docket: &[u8]) -> Result<(u64, u32), Refusal> {
     let docket = Docket::read(docket)?;
     ladder::lowering(&docket)?;

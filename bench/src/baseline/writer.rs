@@ -3,7 +3,8 @@
 use super::docket::{count_test, state_length, version_test, Docket};
 use super::{refuse, tree, Refusal};
 
-/// Tests 2, 31, 3, 5 to 8, 11 and 30; then the docket of the parts stands in the output, and its length is handed back.
+/// Tests 2, 31, 3, 5, 6, 7, 14, 8, 11 and 30; then the docket of the parts stands in the output, and its length is handed
+/// back.
 pub fn write(version: u32, parts: [&[u8]; 5], output: &mut [u8]) -> Result<usize, Refusal> {
     version_test(version)?;
     let counts = record_counts(version, parts)?;

@@ -1,4 +1,5 @@
--- The whole check of a docket (document 01, "What a call says"): tests 1 to 13 in order; a tree goes node by node.
+-- The whole check of a docket (document 01, "What a call says"): tests 1 to 13 in order, with 14
+-- between 7 and 8; a tree goes node by node.
 use mathlib.Core.Bool.{not}
 use mathlib.Core.List.{List, [], _∷_}
 use Prim.Native.Nat.{ℕ}
@@ -8,7 +9,6 @@ use Rattle.theory.specs.Ladder.{Layers, lowersAt, handoverAt, spreads}
 use Rattle.theory.specs.Tree.{Walked, next, refused, disagreement, treeAnswer, widest}
 use Rattle.format.specs.Format.{Sections, sectionsOf, layerWeight, protocolOf, layersOf, treeOf, weightsOf}
 use Rattle.format.specs.declared.Sizes.{Sizes}
-use Rattle.format.specs.declared.Header.{Header}
 use Rattle.shape.specs.Shape.{refusal, shapeOf, byShape}
 use Rattle.leaf.specs.Leaf.{leafTest}
 use Rattle.checker.specs.declared.Summary.{Summary}

@@ -1,4 +1,4 @@
-// The check of a docket: tests 1 to 13 in order. Any bytes may be given.
+// The check of a docket: tests 1 to 13 in order, with 14 between 7 and 8. Any bytes may be given.
 ghost use mathlib.Core.Path.{_≡_};
 ghost use Rattle.format.specs.Format.{sections, sectionsOf};
 ghost use Rattle.shape.specs.Sound.{SoundShape};

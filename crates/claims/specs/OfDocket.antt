@@ -120,9 +120,9 @@ module _ (b : List ℕ) (h : Header) where
 
   -- The bytes b, with header h, keep every rule of document 01, as the Jobs of document 02 that are landed have it: rules are
   -- distinct in all four states (Job 1), a tree may have nodes of kind 7 (Job 2), and a docket of version 2 may have fixed
-  -- workers (Job 4).
+  -- workers (Job 4) and has its rules in order (Job 5).
   pub record Rules : Type 0 where
-    -- Tests 1 to 8.
+    -- Tests 1 to 8, with 14.
     pub shape : SoundShape b h
     -- Test 9: lowering.
     pub lowering : (r : ℕ) → r < h .sizes .rules → Lowers r
@@ -133,7 +133,7 @@ module _ (b : List ℕ) (h : Header) where
     -- Tests 12 and 13: the root's subtree, on fresh facts, ends behind the last node.
     pub tree : TreeStands (protocolIn b h) assumed treeIn
 
-  -- Tests 1 to 11, in order: each has a number, places, and says which of its places are bad.
+  -- Tests 1 to 11, with 14, in order: each has a number, places, and says which of its places are bad.
   abbrev pub testsIn : List Test
   testsIn = shapeTests b h ++ certificateTests (h .sizes) (sectionsOf b h)
 
@@ -149,8 +149,8 @@ pub record Demand2 (b : List ℕ) : Type 0 where
   pub summary : (h : Header) → Rules b h → checkOf b ≡ Accepted (summaryOf (h .sizes) (sectionsOf b h))
   -- A docket that is refused does not keep every rule.
   pub refusals : (n k : ℕ) → checkOf b ≡ Refused (refusal n k) → (h : Header) → Rules b h → ⊥
-  -- A refusal is given just where it is the first of tests 1 to 11 that fits, or where none of these fits and the walk
-  -- gives it.
+  -- A refusal is given just where it is the first of tests 1 to 11, with 14, that fits, or where none of these fits and
+  -- the walk gives it.
   pub refusal-is : (n k : ℕ) → let h = headerOf b in
       (checkOf b ≡ Refused (refusal n k))
       ↔ (FirstFits (testsIn b h) n k ⊎ (Passes (testsIn b h) × TreeFails (protocolIn b h) (assumed b h) (treeIn b h) n k))

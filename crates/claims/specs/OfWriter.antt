@@ -1,4 +1,4 @@
--- What is proved of the writer (document 02, Jobs 3 and 4), for every version v, all sections x, which document 02 calls parts,
+-- What is proved of the writer (document 02, Jobs 3 to 5), for every version v, all sections x, which document 02 calls parts,
 -- and every output `out`. Statements only; OfWriter/ proves them. The contracts of the code say that the writer answers writeOf v
 -- x (length out) and leaves outputOf v x out in the output.
 use mathlib.Core.Path.{_≡_}
@@ -33,7 +33,7 @@ module _ (v : ℕ) (x : Sections) (out : List ℕ) where
   -- What the writer answers.
   pub record Answers : Type 0 where
     -- The total, which is the docket's length, just where all tests pass; else the refusal that is the first of tests 2, 31, 3,
-    -- 5 to 8, 11 and 30 to fit, at its lowest place.
+    -- 5, 6, 7, 14, 8, 11 and 30 to fit, at its lowest place.
     pub total-is : (n : ℕ) → (writeOf v x (length out) ≡ Total n) ↔ (Passes (writeTests v x (length out)) × (n ≡ length (docketOf v x)))
     pub refusal-is : (n k : ℕ) → (writeOf v x (length out) ≡ Refused (refusal n k)) ↔ FirstFits (writeTests v x (length out)) n k
     -- 2, at place 0, just where the version is neither 1 nor 2, whatever else is wrong.

@@ -3,6 +3,7 @@ use mathlib.Core.Path.{_≡_, refl, subst}
 use mathlib.Core.Bool.{Bool, true, false}
 use mathlib.Core.List.{List, [], _∷_, _++_}
 use Prim.Native.Nat.{ℕ, _≤_}
+use native.Mathlib.Omega.{arith}
 use lib.Dec.{ltb}
 use lib.ListN.{length, getD, take, drop, set, replicate}
 use Rattle.theory.specs.Below.{allBelow}
@@ -11,9 +12,11 @@ use Rattle.theory.specs.Tree.{widest}
 use Rattle.theory.specs.Machine.{run, ran}
 use Rattle.shape.specs.Shape.{refusal}
 use Rattle.theory.specs.Unfold.{walking, calling}
-use Rattle.format.specs.Format.{headerOf, Sections}
+use Rattle.format.specs.Format.{headerOf, Sections, sectionsOf}
+use Rattle.format.specs.declared.Header.{Header}
 use Rattle.format.specs.Samples.{broadcast, majority, twoOutcomes, parity, seeded, quorum}
 use Rattle.shape.specs.Samples.{shaping}
+use Rattle.shape.specs.Sound.{SoundShape}
 use Rattle.leaf.specs.Leaf.{badLeaf}
 use Rattle.checker.specs.Check.{sectionsCheck, checkOf}
 use Rattle.checker.specs.declared.Checked.{Checked}
@@ -29,7 +32,8 @@ use Rattle.machine.specs.declared.Started.the-variants as started
 use Rattle.machine.specs.declared.Verdict.the-variants.{Agreed}
 use Rattle.claims.specs.OfDocket.{Rules, Demand3}
 use Rattle.claims.specs.OfWriter.{Readable, Wrote}
-use Rattle.claims.specs.OfVersions.{inVersion2}
+use Rattle.claims.specs.OfVersions.{widened, inVersion2}
+use Rattle.claims.specs.OfOrder.{RulesAmong, SoundVersion2}
 use Rattle.claims.specs.Claims.Proved.{claims}
 use Rattle.claims.specs.Dockets.OneLayer.{one-layer}
 use Rattle.claims.specs.Dockets.{cut, longer, exchanged, withoutAbsent, oneLayer, inputFixed}
@@ -133,9 +137,27 @@ fixedStarts =
     ∷ starts (set seeded 28 2) (3 ∷ 5 ∷ 0 ∷ 0 ∷ []) started.Start
     ∷ []
 
+-- Samples of document 02, Job 5: rules 0 and 1 of the docket with two outcomes exchanged, in version 1 and in version 2; of parity
+-- with fixed agents, rule 0 changed so that it belongs behind rule 1, the last rule moved to layer 0, which leaves layer 2 empty,
+-- and rule 2 again in layer 1. The start test refuses as the check does, and the writer sorts in neither version.
+abbrev anotherOrder : List ℕ
+anotherOrder = set (set twoOutcomes 30 2) 35 1
+
+abbrev pub rulesInOrder : List Sample
+rulesInOrder =
+    says anotherOrder (Accepted (record { states = 3; rules = 3; layers = 1; nodes = 7; spreads = 1; widest = 2 }))
+    ∷ says (inVersion2 anotherOrder (headerOf anotherOrder)) (Refused (refusal 14 1))
+    ∷ says (set seeded 37 2) (Refused (refusal 14 1))
+    ∷ says (set seeded 60 0) (Refused (refusal 14 4))
+    ∷ says (set (set (set (set seeded 51 1) 52 1) 53 1) 54 3) (Refused (refusal 7 3))
+    ∷ starts (set seeded 37 2) [] (started.Refused (refusal 14 1))
+    ∷ writes 2 (parts (set seeded 37 2)) (replicate 186 170) (written.Refused (refusal 14 1)) (replicate 186 170)
+    ∷ writes 1 (parts anotherOrder) (replicate 139 170) (written.Total 138) (anotherOrder ++ 170 ∷ [])
+    ∷ []
+
 -- The names that samples unfold.
 unfoldable sampling : ℕ
-unfolding writing shaping walking calling badLeaf sectionsCheck checkOf replyOf countsOf verdictOf verdictAnswer startOf startAnswer
+unfolding writing shaping walking calling widened badLeaf sectionsCheck checkOf replyOf countsOf verdictOf verdictAnswer startOf startAnswer
 sampling = 0
 
 pub samples-hold : AllHold samples
@@ -153,6 +175,10 @@ fixed-hold = (refl, (refl, (refl, (refl, (refl, (refl, (refl, (refl, (refl, (ref
 pub starts-hold : AllHold fixedStarts
 unfolding sampling
 starts-hold = (refl, (refl, (refl, (refl, (refl, (refl, (refl, tt)))))))
+
+pub order-holds : AllHold rulesInOrder
+unfolding sampling
+order-holds = (refl, (refl, (refl, (refl, (refl, (refl, ((refl, refl), ((refl, refl), tt))))))))
 
 -- So demand 3 holds of a docket in which a pair has two outcomes: what it says of rest and verdict is not empty there.
 pub outcomes-settle : (c : List ℕ) → Demand3 twoOutcomes (headerOf twoOutcomes) c
@@ -189,4 +215,15 @@ broadcast-again out fits =
 
 pub broadcast-in-2 : checkOf (inVersion2 broadcast (headerOf broadcast)) ≡ checkOf broadcast
 unfolding shaping
-broadcast-in-2 = claims .of-versions .alike broadcast (headerOf broadcast) (broadcast-keeps .shape) refl .check
+broadcast-in-2 = claims .of-versions .alike broadcast (headerOf broadcast) (broadcast-keeps .shape) refl (λ r l. absurd (omega arith)) .check
+
+-- Every docket of version 2 with the rules of parity with fixed agents has the bytes of its rules.
+seeded-sound : SoundVersion2 seeded (headerOf seeded)
+unfolding shaping
+seeded-sound =
+    let rules = claims .of-docket seeded .demand-2 .exact .0 (_, fixed-hold .0) .1 in
+    record { shape = subst (SoundShape seeded) (rules .shape .header) (rules .shape); version = refl }
+
+pub seeded-order : (d : List ℕ) (k : Header) → SoundVersion2 d k → RulesAmong d k seeded (headerOf seeded)
+    → RulesAmong seeded (headerOf seeded) d k → sectionsOf d k .rules ≡ sectionsOf seeded (headerOf seeded) .rules
+seeded-order d k g = claims .of-order .one-order d seeded k (headerOf seeded) g seeded-sound

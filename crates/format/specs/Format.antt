@@ -1,11 +1,12 @@
--- The docket file (document 01, "The file"; version 2: document 02, Job 4): its header, its five sections, and the protocol,
--- the layers and weights of the ladder, the tree and the leaf weights that they stand for. Everywhere b are a docket's bytes,
--- h its header, z its sizes.
+-- The docket file (document 01, "The file"; version 2: document 02, Jobs 4 and 5): its header, its five sections, and the
+-- protocol, the layers and weights of the ladder, the tree and the leaf weights that they stand for. Everywhere b are a docket's
+-- bytes, h its header, z its sizes.
 use mathlib.Core.Bool.{Bool, cond}
-use mathlib.Core.List.{List}
+use mathlib.Core.List.{List, [], _∷_}
 use Prim.Native.Nat.{ℕ, _+_, _-_, _*_, _/_, _%_}
 use lib.Dec.{eqb}
 use lib.ListN.{getD}
+use Rattle.theory.specs.Order.{lexLess}
 use Rattle.theory.specs.Protocol.{Protocol}
 use Rattle.theory.specs.Ladder.{Layers}
 use Rattle.theory.specs.Tree.{Tree}
@@ -102,6 +103,14 @@ module _ (xs : List ℕ) (r : ℕ) where
 
   abbrev pub ruleOf : Rule
   ruleOf = record { p = ruleP; q = ruleQ; p2 = ruleP′; q2 = ruleQ′; layer = ruleLayer }
+
+-- The numbers of a rule by which rules are put in order (document 02, Job 5): its layer, then p, q, p′, q′.
+abbrev pub ruleKey : Rule → List ℕ
+ruleKey x = x .layer ∷ x .p ∷ x .q ∷ x .p2 ∷ x .q2 ∷ []
+
+-- Rule x comes before rule y in this order.
+abbrev pub ruleBefore : Rule → Rule → Bool
+ruleBefore x y = lexLess (ruleKey x) (ruleKey y)
 
 -- Layer l's weight of state s, of n states.
 abbrev pub layerWeight : ℕ → List ℕ → ℕ → ℕ → ℕ

@@ -7,7 +7,7 @@ ghost use Rattle.theory.specs.Bool.{member};
 ghost use Rattle.bits.specs.Code.{amongOf};
 ghost use Rattle.format.specs.Bytes.{le16, le32, le64, section as sectionOf};
 ghost use Rattle.format.specs.Format.{headerOf, stateWidth, statesLength, rulesLength, layersLength, nodesLength, leavesLength, flags, fixedOf, isInput};
-ghost use Rattle.format.specs.Format.{ruleP, ruleQ, ruleOf, ruleP′, ruleQ′, ruleLayer, layerWeight};
+ghost use Rattle.format.specs.Format.{ruleP, ruleQ, ruleOf, ruleP′, ruleQ′, ruleLayer, ruleBefore, layerWeight};
 ghost use Rattle.format.specs.Format.{nodeKind, nodeParty, nodeArgument, nodeSet, leafBits, biased};
 ghost use Rattle.format.specs.Code.{Value, hasFlag};
 
@@ -305,6 +305,25 @@ pub fn read_rule(rules: &[u8], r: u16) -> Rule
         q2: byte(rules, at + 3),
         layer: byte(rules, at + 4),
     }
+}
+
+// Whether rule x comes before rule y in the order of rules: the first of layer, p, q, p2, q2 in which they differ decides.
+pub fn rule_before(x: Rule, y: Rule) -> bool
+    ensures { λ t. ⌜ t ≡ ruleBefore x y ⌝ }
+{
+    if x.layer != y.layer {
+        return x.layer < y.layer;
+    }
+    if x.p != y.p {
+        return x.p < y.p;
+    }
+    if x.q != y.q {
+        return x.q < y.q;
+    }
+    if x.p2 != y.p2 {
+        return x.p2 < y.p2;
+    }
+    x.q2 < y.q2
 }
 
 // Rule r by its fields: the before pair p, q.

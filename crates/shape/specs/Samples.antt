@@ -5,13 +5,14 @@ use Prim.Native.Nat.{ℕ}
 use lib.ListN.{take, set}
 use Rattle.format.specs.Samples.{reading, broadcast, majority, twoOutcomes, seeded, quorum}
 use Rattle.theory.specs.Below.{firstBelow}
-use Rattle.shape.specs.Shape.{nth, countFaults, badState, repeats, badLayer, headerShape, shapeOf}
+use Rattle.theory.specs.Order.{lexLess}
+use Rattle.shape.specs.Shape.{nth, countFaults, badState, repeats, outOfOrder, badLayer, headerShape, shapeOf}
 use Rattle.shape.specs.declared.Shape.{Shape}
 use Rattle.shape.specs.declared.Shape.the-variants.{Sound, Refused}
 
 -- The names that computed cases of tests 1 to 8 unfold.
 unfoldable pub shaping : ℕ
-unfolding reading shapeOf headerShape badState repeats badLayer
+unfolding reading lexLess shapeOf headerShape badState repeats outOfOrder badLayer
 shaping = 0
 
 -- Number and place: 0, 0 for a sound shape.
@@ -90,6 +91,25 @@ samples =
     ∷ (set seeded 27 0, (5, 4))
     ∷ (set (set (set seeded 27 0) 34 233) 35 3, (5, 3))
     ∷ (set seeded 36 4, (6, 0))
+    -- Its rules are 0 0 1 3, 0 1 0 2 and 1 1 1 3 of layer 0, 0 3 0 2 of layer 1 and 1 2 1 3 of layer 2, in order. By each number
+    -- in turn, layer, p, q, p′, q′, rule 2 does not come after rule 1.
+    ∷ (set seeded 45 1, (14, 2))
+    ∷ (set (set seeded 41 1) 46 0, (14, 2))
+    ∷ (set (set (set seeded 42 2) 44 1) 46 0, (14, 2))
+    ∷ (set (set (set seeded 43 1) 46 0) 48 0, (14, 2))
+    ∷ (set (set (set (set seeded 44 3) 46 0) 48 0) 49 2, (14, 2))
+    -- The same p, q and layer, and p′ greater: in order.
+    ∷ (set seeded 46 0, (0, 0))
+    -- The first place is 1. In version 1 rules may stand as they like.
+    ∷ (set seeded 37 2, (14, 1))
+    ∷ (set twoOutcomes 34 0, (0, 0))
+    -- Test 14 is tried after 6 and 7, whatever their places, and before 8.
+    ∷ (set (set seeded 37 2) 56 4, (6, 4))
+    ∷ (set (set (set (set (set seeded 37 2) 56 0) 57 3) 58 0) 59 2, (7, 4))
+    ∷ (set seeded 60 0, (14, 4))
+    -- Rules equal in all four states are 7, next to each other too, of the same layer and of another.
+    ∷ (set (set (set seeded 46 0) 48 0) 49 2, (7, 2))
+    ∷ (set (set (set (set seeded 51 1) 52 1) 53 1) 54 3, (7, 3))
     ∷ []
 
 abbrev answers : List (List ℕ × (ℕ × ℕ)) → List (ℕ × ℕ)

@@ -1,14 +1,14 @@
 -- Tests 1 to 8 of document 01, for either version (document 02, Job 4). Each can be laid beside its line of the table in "What
--- a call says".
+-- a call says". Test 14 (document 02, Job 5) is one of them, tried between 7 and 8.
 use mathlib.Core.Bool.{Bool, false, not, _||_, _&&_}
-use mathlib.Core.List.{List, [], _∷_}
-use Prim.Native.Nat.{ℕ, _+_}
+use mathlib.Core.List.{List, [], _∷_, _++_}
+use Prim.Native.Nat.{ℕ, zero, suc, _+_}
 use lib.Dec.{leb, ltb, eqb}
 use lib.ListN.{length, getD}
 use Rattle.theory.specs.Below.{anyBelow}
 use Rattle.theory.specs.Judge.{Test, only, judge}
 use Rattle.format.specs.Format.{headerOf, statesLength, rulesLength, layersLength, nodesLength, leavesLength, Sections, sectionsOf}
-use Rattle.format.specs.Format.{flags, isInput, fixedOf, ruleLayer, ruleOf, layerWeight}
+use Rattle.format.specs.Format.{flags, isInput, fixedOf, ruleLayer, ruleOf, ruleBefore, layerWeight}
 use Rattle.format.specs.declared.Sizes.{Sizes}
 use Rattle.format.specs.declared.Header.{Header}
 use Rattle.format.specs.declared.Rule.{Rule}
@@ -65,7 +65,7 @@ offsetFaults h =
     ∷ not (eqb (h .at .total) (h .at .leaves + leavesLength (h .sizes)))
     ∷ []
 
--- ---- Properties of one record, of which tests 5 to 8 are made
+-- ---- Properties of one record, of which tests 5 to 8 and 14 are made
 
 -- State s has a bit set besides 0 and 1.
 abbrev pub otherBits : Sizes → List ℕ → ℕ → Bool
@@ -86,6 +86,11 @@ sameAfter x y = eqb (x .p2) (y .p2) && eqb (x .q2) (y .q2)
 -- Rules e and r are equal in all four states.
 abbrev pub sameRule : List ℕ → ℕ → ℕ → Bool
 sameRule rules r e = sameBefore (ruleOf rules e) (ruleOf rules r) && sameAfter (ruleOf rules e) (ruleOf rules r)
+
+-- Rule r does not come after the one before it; the first rule has none before it.
+abbrev pub notAfter : List ℕ → ℕ → Bool
+notAfter rules zero = false
+notAfter rules (suc r) = not (ruleBefore (ruleOf rules r) (ruleOf rules (suc r)))
 
 -- Rule r is of layer l.
 abbrev pub inLayer : List ℕ → ℕ → ℕ → Bool
@@ -124,29 +129,38 @@ badRule z rules r = badFields z (ruleOf rules r)
 unfoldable pub repeats : List ℕ → ℕ → Bool
 repeats rules r = anyBelow r (sameRule rules r)
 
+-- Test 14, of version 2 alone: the rule does not come after the one before it.
+unfoldable pub outOfOrder : Sizes → List ℕ → ℕ → Bool
+outOfOrder z rules r = eqb (z .version) 2 && notAfter rules r
+
 -- Test 8: no rule in the layer, or a weight too large.
 unfoldable pub badLayer : Sizes → List ℕ → List ℕ → ℕ → Bool
 badLayer z rules layers l = not (anyBelow (z .rules) (inLayer rules l)) || anyBelow (z .states) (tooLarge (z .states) layers l)
 
 -- ---- The check of the shape
 
--- Tests 5 to 8.
+-- Tests 5 to 8, with 14.
 abbrev pub sectionTests : Sizes → Sections → List Test
 sectionTests z x =
     record { number = 5; places = z .states + 1; bad = badState z (x .states) }
     ∷ record { number = 6; places = z .rules; bad = badRule z (x .rules) }
     ∷ record { number = 7; places = z .rules; bad = repeats (x .rules) }
+    ∷ record { number = 14; places = z .rules; bad = outOfOrder z (x .rules) }
     ∷ record { number = 8; places = z .layers; bad = badLayer z (x .rules) (x .layers) }
     ∷ []
 
--- Tests 1 to 8 of the bytes b with header h.
-abbrev pub shapeTests : List ℕ → Header → List Test
-shapeTests b h =
+-- Tests 1 to 4 of the bytes b with header h.
+abbrev pub headerTests : List ℕ → Header → List Test
+headerTests b h =
     only 1 (ltb (length b) 24 || not (eqb (length b) (h .at .total)))
     ∷ versionTest (h .sizes .version)
     ∷ countTest (h .sizes)
     ∷ record { number = 4; places = 6; bad = nth (offsetFaults h) }
-    ∷ sectionTests (h .sizes) (sectionsOf b h)
+    ∷ []
+
+-- Tests 1 to 8, with 14.
+abbrev pub shapeTests : List ℕ → Header → List Test
+shapeTests b h = headerTests b h ++ sectionTests (h .sizes) (sectionsOf b h)
 
 -- What tests 1 to 8 find: the header of bytes that pass, or the refusal.
 unfoldable pub headerShape : List ℕ → Header → Shape

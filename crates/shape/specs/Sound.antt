@@ -5,10 +5,11 @@ use mathlib.Core.List.{List}
 use mathlib.Core.Logic.{_⊎_}
 use Prim.Native.Nat.{ℕ, _+_, _≤_, _<_}
 use lib.ListN.{length}
+use Rattle.theory.specs.Order.{Ascending}
 use Rattle.theory.specs.Protocol.{WellFormed}
 use Rattle.theory.specs.Ladder.{OrderedPartition}
 use Rattle.format.specs.Format.{headerOf, statesLength, rulesLength, layersLength, nodesLength, leavesLength, Sections, sectionsOf}
-use Rattle.format.specs.Format.{flags, fixedOf, ruleP, ruleQ, ruleP′, ruleQ′, layerWeight, protocolOf, layersOf}
+use Rattle.format.specs.Format.{flags, fixedOf, ruleP, ruleQ, ruleP′, ruleQ′, ruleOf, ruleKey, layerWeight, protocolOf, layersOf}
 use Rattle.format.specs.declared.Sizes.{Sizes}
 use Rattle.format.specs.declared.Header.{Header}
 pub mod Laws
@@ -39,7 +40,11 @@ pub record Laid (b : List ℕ) (h : Header) : Type 0 where
   pub total : h .at .total ≡ h .at .leaves + leavesLength (h .sizes)
   pub whole : length b ≡ h .at .total
 
--- The records are as tests 5 to 8 want them.
+-- The n rules stand in order, each after the one before it.
+abbrev pub InOrder : ℕ → List ℕ → Type 0
+InOrder n rules = Ascending (λ r. ruleKey (ruleOf rules r)) n
+
+-- The records are as tests 5 to 8 and 14 want them.
 pub record SoundSections (z : Sizes) (x : Sections) : Type 0 where
   pub state-bits : (s : ℕ) → s < z .states → flags z (x .states) s ≤ 3
   pub fixed-most : (s : ℕ) → s < z .states → fixedOf z (x .states) s ≤ 1000
@@ -47,6 +52,7 @@ pub record SoundSections (z : Sizes) (x : Sections) : Type 0 where
   pub partition : OrderedPartition (protocolOf z (x .states) (x .rules)) (layersOf z (x .rules))
   pub rules-distinct : (e r : ℕ) → e < r → r < z .rules → ruleP (x .rules) e ≡ ruleP (x .rules) r → ruleQ (x .rules) e ≡ ruleQ (x .rules) r
       → ruleP′ (x .rules) e ≡ ruleP′ (x .rules) r → ruleQ′ (x .rules) e ≡ ruleQ′ (x .rules) r → ⊥
+  pub ascending : z .version ≡ 2 → InOrder (z .rules) (x .rules)
   pub weights-most : (l s : ℕ) → l < z .layers → s < z .states → layerWeight (z .states) (x .layers) l s ≤ 1000000
 
 -- The bytes b, with header h, pass tests 1 to 8.

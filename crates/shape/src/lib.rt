@@ -1,4 +1,4 @@
-// Tests 1 to 8 of a docket, which every call makes first. Any bytes may be given.
+// Tests 1 to 8 of a docket, with 14 among them, which every call makes first. Any bytes may be given.
 // The limits are constants of the type Facts, as document 01's forms ask of depth and counts.
 ghost use mathlib.Core.Path.{_≡_};
 ghost use mathlib.Core.Bool.{not, _||_, _&&_};
@@ -9,7 +9,8 @@ ghost use lib.ListN.{length};
 ghost use Rattle.theory.specs.Bool.{member};
 ghost use Rattle.theory.specs.Below.{anyBelow, firstBelow};
 ghost use Rattle.format.specs.Code.{Value};
-ghost use Rattle.shape.specs.Shape.{wrongVersion, countFaults, offsetFaults, nth, badState, badRule, repeats, inLayer, badLayer, headerShape, shapeOf};
+ghost use Rattle.shape.specs.Shape.{wrongVersion, countFaults, offsetFaults, nth, badState, badRule, repeats, outOfOrder};
+ghost use Rattle.shape.specs.Shape.{inLayer, badLayer, headerShape, shapeOf};
 ghost use Rattle.shape.specs.Code.{alike, again, holdsOf, markOf, usedBelow, testedOf, asShape, refusalOf};
 use facts::Facts;
 use format::Header;
@@ -258,6 +259,27 @@ fn repeat_fault(rules: &[u8], z: Sizes) -> u16
     }
 }
 
+// Test 14: the first rule that does not come after the one before it, or the number of rules. Not tried in version 1.
+fn order_fault(rules: &[u8], z: Sizes) -> u16
+    ensures { λ i. ⌜ i ≡ firstBelow (z .rules) (outOfOrder z (now (rules .entry))) ⌝ }
+{
+    let n = z.rules;
+    if z.version != 2 {
+        return n;
+    }
+    let mut before = format::read_rule(rules, 0);
+    let mut i: u16 = 1;
+    while i < n {
+        let rule = format::read_rule(rules, i);
+        if !format::rule_before(before, rule) {
+            return i;
+        }
+        before = rule;
+        i += 1;
+    }
+    n
+}
+
 // The layers below 64 that have a rule.
 fn used_layers(rules: &[u8], z: Sizes) -> u64
     ensures { λ w. ⌜ member w ≡ usedBelow (now (rules .entry)) (z .rules) ⌝ }
@@ -305,7 +327,7 @@ fn layer_fault(rules: &[u8], layers: &[u8], z: Sizes) -> u16
     i
 }
 
-// Tests 5 to 8.
+// Tests 5 to 8, with 14.
 pub fn section_tests(states: &[u8], rules: &[u8], layers: &[u8], z: Sizes) -> Tested
     ensures { λ r. ⌜ r ≡ testedOf z (now (states .entry)) (now (rules .entry)) (now (layers .entry)) ⌝ }
 {
@@ -322,6 +344,11 @@ pub fn section_tests(states: &[u8], rules: &[u8], layers: &[u8], z: Sizes) -> Te
     if q < z.rules {
         let place = q as u32;
         return Tested::Failed(Refusal { number: 7, place });
+    }
+    let o = order_fault(rules, z);
+    if o < z.rules {
+        let place = o as u32;
+        return Tested::Failed(Refusal { number: 14, place });
     }
     let l = layer_fault(rules, layers, z);
     if l < z.layers {

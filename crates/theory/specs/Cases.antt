@@ -1,5 +1,6 @@
 -- Cases of the definitions, most of them computed. P1 to P12 are the samples of document 01. Tables has laws that serve
 -- Witnesses.
+pub mod Order
 pub mod Protocol
 pub mod Ladder
 pub mod Tree

@@ -2,6 +2,7 @@
 -- in the end is in Claims.
 pub mod Bool
 pub mod Below
+pub mod Order
 pub mod Judge
 pub mod Weigh
 pub mod Protocol

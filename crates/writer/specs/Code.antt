@@ -28,7 +28,7 @@ cutSizes z =
       leaves = cut (z .leaves);
     }
 
--- Tests 5 to 8 and 11, for any sizes z. They do not look at the nodes.
+-- Tests 5 to 8, with 14, and 11, for any sizes z. They do not look at the nodes.
 unfoldable pub recordsTested : Sizes → List ℕ → List ℕ → List ℕ → List ℕ → Tested
 recordsTested z states rules layers leaves =
     judge (λ n k. Failed (refusal n k)) Passed (recordTests z (sections states rules layers [] leaves))

@@ -92,7 +92,7 @@ samples-right = refl
 abbrev withStates : ℕ → Sections
 withStates n = let x = parts seeded in sections (take n (x .states)) (x .rules) (x .layers) (x .nodes) (x .leaves)
 
--- In version 2 a state record has three bytes.
+-- In version 2 a state record has three bytes, and rules stand in order.
 abbrev samples-2 : List (Sections × (ℕ × (ℕ × ℕ)))
 samples-2 =
     (parts seeded, (185, (0, 185)))
@@ -108,6 +108,10 @@ samples-2 =
     ∷ (withStates 0, (185, (3, 0)))
     ∷ (parts (set (set seeded 25 233) 26 3), (0, (5, 0)))
     ∷ (parts (set seeded 27 0), (0, (5, 4)))
+    -- Test 14, behind 7 and before 8; the rules are not sorted.
+    ∷ (parts (set seeded 37 2), (0, (14, 1)))
+    ∷ (parts (set (set (set seeded 46 0) 48 0) 49 2), (0, (7, 2)))
+    ∷ (parts (set seeded 60 0), (0, (14, 4)))
     ∷ []
 
 samples-2-right : answers 2 samples-2 ≡ expected samples-2

@@ -1,6 +1,6 @@
--- The writer of dockets (document 02, Jobs 3 and 4). It is told the version v and lent the bytes of the five sections, which
--- document 02 calls parts, and an output. It makes tests 2, 31, 3, 5 to 8, 11 and 30, in this order, and writes the docket to the
--- beginning of the output.
+-- The writer of dockets (document 02, Jobs 3 to 5). It is told the version v and lent the bytes of the five sections, which
+-- document 02 calls parts, and an output. It makes tests 2, 31, 3, 5, 6, 7, 14, 8, 11 and 30, in this order, and writes the docket
+-- to the beginning of the output. It does not sort the rules.
 use mathlib.Core.Path.{_≡_}
 use mathlib.Core.Bool.{Bool, not, cond, _&&_}
 use mathlib.Core.List.{List, [], _∷_, _++_}
@@ -122,7 +122,7 @@ docketOf v x = headerBytes (headerFor (sizesIn v x)) ++ (x .states ++ (x .rules 
 abbrev pub lengthTest : ℕ → Sections → Test
 lengthTest v x = record { number = 31; places = 5; bad = nth (lengthFaults v (lengthsOf x)) }
 
--- Tests 5 to 8 and 11, of the sections x with sizes z. The ladder and the tree are not judged.
+-- Tests 5 to 8, with 14, and 11, of the sections x with sizes z. The ladder and the tree are not judged.
 abbrev pub recordTests : Sizes → Sections → List Test
 recordTests z x = sectionTests z x ++ leafTest z (x .leaves) ∷ []
 

@@ -184,7 +184,7 @@ fn header_bytes(h: Header) -> [u8; 24]
     ]
 }
 
-// Tests 5 to 8 and 11 of the sections.
+// Tests 5 to 8, with 14, and 11 of the sections.
 fn record_tests(states: &[u8], rules: &[u8], layers: &[u8], leaves: &[u8], z: Sizes) -> Tested
     ensures { λ r. ⌜ r ≡ recordsTested z (now (states .entry)) (now (rules .entry)) (now (layers .entry)) (now (leaves .entry)) ⌝ }
 {

@@ -1,12 +1,13 @@
 //! Families of accepted dockets of version 2 with fixed agents. Without them each is refused, but for some of `sum`.
 
 use super::remainder::{alone, table, told_by, which_value};
-use super::{layer_from_top, node, pairs, remainder_node, rising_weights, rule, set_node, split, state};
+use super::{layer_from_top, node, pairs, remainder_node, rising_weights, rule, set_node, sort_rules, split, state};
 use second::{Docket, Leaf, Node};
 
-/// The docket in version 2, with these numbers of fixed agents for its first states.
+/// The docket in version 2, its rules in order, with these numbers of fixed agents for its first states.
 pub fn with_fixed(mut docket: Docket, fixed: &[i64]) -> Docket {
     docket.version = 2;
+    sort_rules(&mut docket);
     for (state, &fixed) in docket.states.iter_mut().zip(fixed) {
         state.fixed = fixed;
     }
@@ -85,7 +86,7 @@ fn no_more_in_a() -> Vec<Node> {
 pub fn sum(m: usize, r: usize, fixed: &[i64]) -> Docket {
     let total: i64 = fixed.iter().zip(0..).map(|(fixed, value)| fixed * value).sum();
     let k = if total % m as i64 == r as i64 { 1 } else { 2 };
-    let mut docket = with_fixed(table(m, r, &[0]), fixed);
+    let mut docket = table(m, r, &[0]);
     let values: Vec<usize> = (0..m).collect();
     docket.nodes = which_value(k, m, &values, &|value, later| {
         let told = (value == r) == (k == 1);
@@ -98,7 +99,7 @@ pub fn sum(m: usize, r: usize, fixed: &[i64]) -> Docket {
     });
     let Leaf { y1, y2 } = &mut docket.leaves[0];
     if k == 1 { y2 } else { y1 }.fill(0);
-    docket
+    with_fixed(docket, fixed)
 }
 
 /// Every count at its limit, and 1,000 fixed agents in each of 64 states.
@@ -123,8 +124,8 @@ pub fn layered(rules: usize, layers: usize, nodes: usize, leaves: usize) -> Dock
     with_fixed(docket, &[1000; 64])
 }
 
-/// State 0 absent at end 1 is refuted by a leaf, all else by kind 1; in n nodes, 3 or more. Rule 0 takes two agents from
-/// one state, so its node has one child.
+/// State 0 absent at end 1 is refuted by a leaf, all else by kind 1; in n nodes, 3 or more. Rule 0, as the rules are
+/// before they are put in order, takes two agents from one state, so its node has one child.
 fn leaf_argument(n: usize, leaf: usize) -> Vec<Node> {
     let mut nodes = vec![node(4, 1, 0)];
     nodes.extend((3..n).map(|_| node(3, 2, 0)));

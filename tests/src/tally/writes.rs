@@ -131,7 +131,17 @@ fn states_wanted() -> Vec<(u32, usize, u32, u32)> {
 const LEAST_CALLS: u64 = 10;
 
 /// How many places must be met with each refusal.
-const LEAST_PLACES: [(u32, usize); 8] = [(3, 5), (5, 20), (6, 40), (7, 40), (8, 10), (11, 20), (30, 1), (31, 5)];
+const LEAST_PLACES: [(u32, usize); 9] = [
+    (3, 5),
+    (5, 20),
+    (6, 40),
+    (7, 40),
+    (14, 40),
+    (8, 10),
+    (11, 20),
+    (30, 1),
+    (31, 5),
+];
 
 /// Places that must be met: the place behind the last state in test 5, the last rule, the last layer and the last leaf.
 const LAST_PLACES: [(u32, u32); 4] = [(5, 64), (6, 255), (8, 15), (11, 127)];

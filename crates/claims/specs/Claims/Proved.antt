@@ -1,6 +1,7 @@
 -- All claims are proved. Assumes nothing.
 use Rattle.claims.specs.OfDocket.Proved.{of-docket}
 use Rattle.claims.specs.OfWriter.Proved.{of-writer}
+use Rattle.claims.specs.OfOrder.Proved.{of-order}
 use Rattle.claims.specs.OfVersions.Proved.{of-versions}
 use Rattle.claims.specs.Claims.{Claims}
 
@@ -8,5 +9,6 @@ pub claims : Claims
 claims = record {
   of-docket = of-docket;
   of-writer = of-writer;
+  of-order = of-order;
   of-versions = of-versions;
 }

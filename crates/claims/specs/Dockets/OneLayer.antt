@@ -16,7 +16,7 @@ use Rattle.format.specs.Bytes.{le16, le32}
 use Rattle.format.specs.Format.{headerOf, sectionsOf, protocolIn, layersIn, weightIn}
 use Rattle.format.specs.declared.Header.{Header}
 use Rattle.theory.specs.Judge.Laws.{judge-hit, passes-judge}
-use Rattle.shape.specs.Shape.{refusal, byShape, badState, repeats, badLayer, shapeTests, headerShape, shapeOf}
+use Rattle.shape.specs.Shape.{refusal, byShape, badState, repeats, outOfOrder, badLayer, shapeTests, headerShape, shapeOf}
 use Rattle.shape.specs.declared.Shape.the-variants as shape
 use Rattle.checker.specs.Check.{sectionsCheck, checkOf}
 use Rattle.checker.specs.declared.Checked.the-variants.{Refused}
@@ -48,9 +48,9 @@ module _ (x y z t : ℕ) (lx : x ≤ 1000000) (ly : y ≤ 1000000) (lz : z ≤ 1
   layer (suc k) l = absurd (omega arith)
 
   sound : shapeOf b ≡ shape.Sound h
-  unfolding shapeOf headerShape badState repeats firstBelow anyBelow le16
+  unfolding shapeOf headerShape badState repeats outOfOrder firstBelow anyBelow le16
   sound = passes-judge (λ n k. shape.Refused (refusal n k)) (shape.Sound h) (shapeTests b h)
-      (none _ _ refl, (none _ _ refl, (none _ _ refl, (none _ _ refl, (none _ _ refl, (none _ _ refl, (none _ _ refl, (layer, tt))))))))
+      (none _ _ refl, (none _ _ refl, (none _ _ refl, (none _ _ refl, (none _ _ refl, (none _ _ refl, (none _ _ refl, (none _ _ refl, (layer, tt)))))))))
 
   -- Rules 1 and 2 cannot both lower: one needs more weight of b than of a, the other less.
   fails : Clear (λ r. not (lowersAt (protocolIn b h) (layersIn b h) (weightIn b h) r)) 4 → ⊥

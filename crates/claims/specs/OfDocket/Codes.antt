@@ -3,7 +3,7 @@ use mathlib.Core.Path.{_≡_, refl, sym, ap, _∙_, subst}
 use mathlib.Core.Bool.{Bool, true, false, cond, true≢false}
 use mathlib.Core.List.{List, [], _∷_, _++_, append-nil}
 use mathlib.Core.Logic.{_↔_, _⊎_, inl, inr, ⊎-elim}
-use Prim.Native.Nat.{ℕ, _+_, _≤_, _<_}
+use Prim.Native.Nat.{ℕ, _≤_, _<_}
 use native.Mathlib.Omega.{arith}
 use borrow.Author.Tests.{ltb-true}
 use lib.Dec.{ltb}
@@ -92,8 +92,22 @@ tests-place b vs few n k f =
     ⊎-elim (λ g. omega (arith, g .1)) (λ s2.
     ⊎-elim (λ g. omega (arith, g .1)) (λ s3.
     let l : Limits (h .sizes) = limits (h .sizes) (s3 .0) in
-    fits-place 65536 n k _
-    (omega arith, (omega (arith, l .states-most), (omega (arith, l .rules-most), (omega (arith, l .rules-most), (omega (arith, l .layers-most), few l)))))
+    fits-place 65536 n k _ (
+      omega arith,
+      (
+        omega (arith, l .states-most),
+        (
+          omega (arith, l .rules-most),
+          (
+            omega (arith, l .rules-most),
+            (
+              omega (arith, l .rules-most),
+              (omega (arith, l .layers-most), few l),
+            ),
+          ),
+        ),
+      ),
+    )
     (s3 .1))
     (fits-split _ _ n k (s2 .1)))
     (fits-split _ _ n k (s1 .1)))

@@ -6,7 +6,7 @@ use mathlib.Core.Logic.{⊎-elim}
 use Prim.Native.Nat.{ℕ, _<_}
 use native.Mathlib.Omega.{arith}
 use borrow.Author.Tests.{not-true, not-false}
-use Rattle.theory.specs.Judge.Laws.{refused-by, fits-here, fits-none, fits-past}
+use Rattle.theory.specs.Judge.Laws.{refused-by, fits-here, fits-past, fits-other}
 use Rattle.theory.specs.Ladder.{Broken}
 use Rattle.theory.specs.Ladder.Handover.{handoverAt-fails, handoverAt-exact}
 use Rattle.theory.specs.Subtree.Laws.{number-12-13}
@@ -37,8 +37,7 @@ certificate-10 b h s sound e =
     let formed = sound .sections .formed in
     ⊎-elim
     (λ f.
-    let g = fits-here _ _ 10 s (λ u. fits-none 10 s (fits-past (_ ∷ []) [] 10 s ((λ q. absurd (omega arith)), tt) u .1))
-    (fits-past (_ ∷ []) _ 10 s ((λ q. absurd (omega arith)), tt) f .1) in (
+    let g = fits-here _ _ 10 s (fits-other _ 10 s refl) (fits-past (_ ∷ []) _ 10 s refl f .1) in (
       handoverAt-fails P L formed s (g .1) (not-true _ (g .2)),
       λ u l. handoverAt-exact P L formed u (omega (arith, g .1)) .0 (not-false _ (g .3 u l)),
     ))

@@ -48,7 +48,7 @@ isOneOf n (m ∷ ms) = eqb n m || isOneOf n ms
 
 -- The refusals of tests 1 to 8, of the check, and of every machine call.
 abbrev pub shapeNumbers : List ℕ
-shapeNumbers = 1 ∷ 2 ∷ 3 ∷ 4 ∷ 5 ∷ 6 ∷ 7 ∷ 8 ∷ []
+shapeNumbers = 1 ∷ 2 ∷ 3 ∷ 4 ∷ 5 ∷ 6 ∷ 7 ∷ 14 ∷ 8 ∷ []
 
 abbrev pub checkNumbers : List ℕ
 checkNumbers = shapeNumbers ++ 9 ∷ 10 ∷ 11 ∷ 12 ∷ 13 ∷ []
@@ -112,7 +112,7 @@ pub shape-number : (b : List ℕ) → isOneOf (shapeNumber (shapeOf b)) shapeNum
 unfolding shapeOf headerShape isOneOf
 shape-number b =
     judge-number shapeNumber (λ n k. shape.Refused (refusal n k)) (shape.Sound (headerOf b)) shapeNumbers (λ n k. refl) refl
-    (shapeTests b (headerOf b)) (refl, (refl, (refl, (refl, (refl, (refl, (refl, (refl, tt))))))))
+    (shapeTests b (headerOf b)) (refl, (refl, (refl, (refl, (refl, (refl, (refl, (refl, (refl, tt)))))))))
 
 -- A refusal of tests 1 to 8 is the first of them that fits.
 placeIn : shapes.Shape → ℕ

@@ -1,26 +1,29 @@
 -- The claims about versions are proved: both dockets have one protocol. Assumes nothing.
 use mathlib.Core.Path.{_≡_, refl, sym, ap, _∙_, subst, fun-ext}
 use mathlib.Core.Bool.{Bool, not, _&&_, _||_}
-use mathlib.Core.List.{List, [], _∷_}
+use mathlib.Core.List.{List, [], _∷_, _++_}
 use mathlib.Core.Logic.{inr}
 use Prim.Native.Nat.{ℕ, zero, suc, _+_, _*_, _/_, _%_}
 use native.Mathlib.Nat.{mul-div-cancel-left}
 use native.Mathlib.Omega.{arith}
 use lib.Dec.{ltb, eqb}
-use lib.ListN.{length, getD}
+use lib.ListN.{length, getD, take}
 use Rattle.theory.specs.Below.{Clear, anyBelow}
 use Rattle.theory.specs.Protocol.{Protocol}
 use Rattle.theory.specs.Judge.{Passes}
-use Rattle.theory.specs.Machine.{Call, refused, reply, countsAfter}
+use Rattle.theory.specs.Judge.Laws.{passes-back, passes-both}
+use Rattle.theory.specs.Machine.{refused, reply, countsAfter}
 use Rattle.format.specs.Bytes.{le16}
 use Rattle.format.specs.Format.{headerOf, Sections, sections, sectionsOf, stateWidth, statesLength, rulesLength, layersLength, nodesLength, leavesLength}
 use Rattle.format.specs.Format.{flags, fixedOf, protocolOf, layersOf, protocolIn, layersIn}
 use Rattle.format.specs.declared.Sizes.{Sizes}
 use Rattle.format.specs.declared.Header.{Header}
-use Rattle.shape.specs.Shape.{shapeOf, byShape, badState, badLayer, sectionTests}
-use Rattle.shape.specs.Sound.{Limits, SoundShape}
-use Rattle.shape.specs.Sound.Laws.{sound-passes, sound-lengths, shape-sound}
+use Rattle.shape.specs.Shape.{refusal, badState, badLayer, sectionTests, headerTests}
+use Rattle.shape.specs.Shape.{shapeOf, byShape}
+use Rattle.shape.specs.Sound.{Limits, InOrder, SoundShape}
+use Rattle.shape.specs.Sound.Laws.{header-passes, clear-order, sound-passes, sound-lengths, shape-sound}
 use Rattle.shape.specs.declared.Refusal.{Refusal}
+use Rattle.shape.specs.declared.Shape.the-variants.{Refused}
 use Rattle.leaf.specs.Leaf.{badLeaf}
 use Rattle.checker.specs.Check.{sectionsCheck, checkOf}
 use Rattle.checker.specs.declared.Checked.the-variants as checked
@@ -30,7 +33,9 @@ use Rattle.machine.specs.declared.YesNo.the-variants as yesNo
 use Rattle.machine.specs.declared.Verdict.the-variants as shown
 use Rattle.writer.specs.Write.{records, sizesIn, WholeRecords, headerFor}
 use Rattle.writer.specs.Write.Laws.{docket-length}
-use Rattle.writer.specs.Write.RoundTrip.{header-same, sections-same, written-sound, sizes-same}
+use Rattle.writer.specs.Write.RoundTrip.{header-same, sections-same, written-laid, written-sound, sizes-same}
+use Rattle.claims.specs.OfOrder.{FirstNotAfter, earlierTests}
+use Rattle.claims.specs.OfOrder.Proved.{of-order}
 use Rattle.claims.specs.OfVersions.{widened, inVersion2, Alike, OfVersions}
 
 -- ---- State records
@@ -161,21 +166,23 @@ module _ (b : List ℕ) (h : Header) (g : SoundShape b h) (one : h .sizes .versi
         leaves-most = L .leaves-most;
       })
 
-  passes : Passes (sectionTests (sizesIn 2 y) y)
-  unfolding badLayer
-  passes =
-      let old = sound-passes b h g .1 .1 .1 .1 in
-      subst (λ k. Passes (sectionTests k y)) (sym sizes-are)
-      (subst (λ f. Clear f (z .states + 1)) (sym (bad-same z one (x .states))) (old .0), old .1)
+  -- Tests 5 to 8 of version 1.
+  old : Passes (sectionTests z x)
+  old = passes-back (headerTests b h) (sectionTests z x) (sound-passes b h g)
+
+  -- Test 5 in version 2.
+  states-pass : Clear (badState (two z) (y .states)) (z .states + 1)
+  states-pass = subst (λ f. Clear f (z .states + 1)) (sym (bad-same z one (x .states))) (old .0)
 
   abbrev H : Header
   H = headerFor (sizesIn 2 y)
 
-  sound : SoundShape d H
-  sound = written-sound 2 y (inr refl) whole within passes
+  header-is : headerOf d ≡ H
+  header-is = header-same 2 y (inr refl) whole within
 
-  sound-read : SoundShape d (headerOf d)
-  sound-read = subst (SoundShape d) (sym (header-same 2 y (inr refl) whole within)) sound
+  -- What is made of sizes and sections.
+  read-as : {A : Type 0} (f : Sizes → Sections → A) → f (H .sizes) (sectionsOf d H) ≡ f (two z) y
+  read-as f = ap (f (sizesIn 2 y)) (sections-same 2 y (inr refl) whole within) ∙ ap (λ k. f k y) sizes-are
 
   longer : length d ≡ length b + 2 * z .states
   longer =
@@ -199,42 +206,71 @@ module _ (b : List ℕ) (h : Header) (g : SoundShape b h) (one : h .sizes .versi
         sound-lengths b h g .states,
       )
 
-  -- ---- Answers
+  -- ---- Rules out of order
 
-  -- What an answer says of the two shapes.
-  same-by : {A : Type 0} (refuse : Refusal → A) (f : (c : List ℕ) → Header → A) → f d H ≡ f b h
-      → byShape refuse (f d) (shapeOf d) ≡ byShape refuse (f b) (shapeOf b)
-  same-by refuse f e = ap (byShape refuse (f d)) (shape-sound d H sound) ∙ e ∙ sym (ap (byShape refuse (f b)) (shape-sound b h g))
+  -- Tests 1 to 7.
+  earlier-pass : Passes (earlierTests d H)
+  earlier-pass =
+      subst (λ ts. Passes (take 7 (headerTests d H ++ ts))) (sym (read-as sectionTests))
+      (passes-both (headerTests d H) (take 3 (sectionTests (two z) y))
+      (header-passes d H (inr refl) within (written-laid 2 y (inr refl) whole within))
+      (states-pass, (old .1 .0, (old .1 .1 .0, tt))))
 
-  -- What is made of sizes and sections.
-  same-of : {A : Type 0} (f : Sizes → Sections → A) → f (two z) y ≡ f z x → f (H .sizes) (sectionsOf d H) ≡ f z x
-  same-of f e = ap (f (sizesIn 2 y)) (sections-same 2 y (inr refl) whole within) ∙ ap (λ k. f k y) sizes-are ∙ e
+  out-of-order : (e : ℕ) → FirstNotAfter (z .rules) (x .rules) e → shapeOf d ≡ Refused (refusal 14 (suc e))
+  out-of-order e first =
+      let there = subst (λ (k : Sizes). FirstNotAfter (k .rules) (x .rules) e) (sym sizes-are) first in
+      let here = subst (λ (u : Sections). FirstNotAfter (H .sizes .rules) (u .rules) e) (sym (sections-same 2 y (inr refl) whole within)) there in
+      of-order .refusal-14 d (suc e) .1
+      (subst
+      (λ k. Passes (earlierTests d k) × (k .sizes .version ≡ 2)
+      × ((i : ℕ) × (suc e ≡ suc i) × FirstNotAfter (k .sizes .rules) (sectionsOf d k .rules) i))
+      (sym header-is) (earlier-pass, refl, (e, refl, here)))
 
-  protocols : protocolIn d H ≡ protocolIn b h
-  protocols = same-of (λ k u. protocolOf k (u .states) (u .rules)) (protocol-same z one (x .states) (x .rules))
+  -- ---- Answers where the rules stand in order
 
-  layers : layersIn d H ≡ layersIn b h
-  layers = same-of (λ k u. layersOf k (u .rules)) refl
+  module _ (up : InOrder (z .rules) (x .rules)) where
+    passes : Passes (sectionTests (sizesIn 2 y) y)
+    unfolding badLayer
+    passes =
+        subst (λ k. Passes (sectionTests k y)) (sym sizes-are)
+        (states-pass, (old .1 .0, (old .1 .1 .0, (clear-order (two z) y (λ _. up), old .1 .1 .1 .1))))
 
-  checks : sectionsCheck (two z) y ≡ sectionsCheck z x
-  unfolding sectionsCheck badLeaf
-  checks = rw (protocol-same z one (x .states) (x .rules))
+    sound : SoundShape d H
+    sound = written-sound 2 y (inr refl) whole within passes
 
-  alike : Alike b d
-  unfolding checkOf startOf enabledOf terminalOf verdictOf replyOf countsOf
-  alike = record {
-    check = same-by checked.Refused (λ c k. sectionsCheck (k .sizes) (sectionsOf c k)) (same-of sectionsCheck checks);
-    start = λ c. same-by started.Refused (λ e k. startAnswer (protocolIn e k) c) (ap (λ P. startAnswer P c) protocols);
-    can-act = λ c r. same-by yesNo.Refused (λ e k. enabledAnswer (protocolIn e k) c r) (ap (λ P. enabledAnswer P c r) protocols);
-    standstill = λ c. same-by yesNo.Refused (λ e k. terminalAnswer (protocolIn e k) c) (ap (λ P. terminalAnswer P c) protocols);
-    verdict = λ c. same-by shown.Refused (λ e k. verdictAnswer (protocolIn e k) c) (ap (λ P. verdictAnswer P c) protocols);
-    of-call = λ c u. (
-      same-by (λ r. refused (r .number) (r .place)) (λ e k. reply (protocolIn e k) (layersIn e k) c u)
-          (ap (λ P. reply P (layersIn d H) c u) protocols ∙ ap (λ L. reply (protocolIn b h) L c u) layers),
-      same-by (λ _. c) (λ e k. countsAfter (protocolIn e k) (layersIn e k) c u)
-          (ap (λ P. countsAfter P (layersIn d H) c u) protocols ∙ ap (λ L. countsAfter (protocolIn b h) L c u) layers),
-    );
-  }
+    sound-read : SoundShape d (headerOf d)
+    sound-read = subst (SoundShape d) (sym header-is) sound
+
+    -- What an answer says of the two shapes.
+    same-by : {A : Type 0} (refuse : Refusal → A) (f : (c : List ℕ) → Header → A) → f d H ≡ f b h
+        → byShape refuse (f d) (shapeOf d) ≡ byShape refuse (f b) (shapeOf b)
+    same-by refuse f e = ap (byShape refuse (f d)) (shape-sound d H sound) ∙ e ∙ sym (ap (byShape refuse (f b)) (shape-sound b h g))
+
+    protocols : protocolIn d H ≡ protocolIn b h
+    protocols = read-as (λ k u. protocolOf k (u .states) (u .rules)) ∙ protocol-same z one (x .states) (x .rules)
+
+    layers : layersIn d H ≡ layersIn b h
+    layers = read-as (λ k u. layersOf k (u .rules))
+
+    checks : sectionsCheck (two z) y ≡ sectionsCheck z x
+    unfolding sectionsCheck badLeaf
+    checks = rw (protocol-same z one (x .states) (x .rules))
+
+    alike : Alike b d
+    unfolding checkOf startOf enabledOf terminalOf verdictOf replyOf countsOf
+    alike = record {
+      check = same-by checked.Refused (λ c k. sectionsCheck (k .sizes) (sectionsOf c k)) (read-as sectionsCheck ∙ checks);
+      start = λ c. same-by started.Refused (λ e k. startAnswer (protocolIn e k) c) (ap (λ P. startAnswer P c) protocols);
+      can-act = λ c r. same-by yesNo.Refused (λ e k. enabledAnswer (protocolIn e k) c r) (ap (λ P. enabledAnswer P c r) protocols);
+      standstill = λ c. same-by yesNo.Refused (λ e k. terminalAnswer (protocolIn e k) c) (ap (λ P. terminalAnswer P c) protocols);
+      verdict = λ c. same-by shown.Refused (λ e k. verdictAnswer (protocolIn e k) c) (ap (λ P. verdictAnswer P c) protocols);
+      of-call = λ c u. (
+        same-by (λ r. refused (r .number) (r .place)) (λ e k. reply (protocolIn e k) (layersIn e k) c u)
+            (ap (λ P. reply P (layersIn d H) c u) protocols ∙ ap (λ L. reply (protocolIn b h) L c u) layers),
+        same-by (λ _. c) (λ e k. countsAfter (protocolIn e k) (layersIn e k) c u)
+            (ap (λ P. countsAfter P (layersIn d H) c u) protocols ∙ ap (λ L. countsAfter (protocolIn b h) L c u) layers),
+      );
+    }
 
 pub of-versions : OfVersions
-of-versions = record { sound = sound-read; longer = longer; alike = alike }
+of-versions = record { longer = longer; sound = sound-read; alike = alike; out-of-order = out-of-order }

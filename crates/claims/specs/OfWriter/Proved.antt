@@ -14,7 +14,7 @@ use Rattle.theory.specs.Below.{Clear, firstBelow}
 use Rattle.theory.specs.Below.Laws.{first-passes, first-lowest}
 use Rattle.theory.specs.Below.Scan.{first-clear}
 use Rattle.theory.specs.Judge.{Test, Passes, FirstFits}
-use Rattle.theory.specs.Judge.Laws.{judge-passes, passes-judge, refused-by, fits-refuses, fits-split, fits-here, fits-none, fits-past, fits-after}
+use Rattle.theory.specs.Judge.Laws.{judge-passes, passes-judge, refused-by, fits-refuses, fits-split, fits-here, fits-none, fits-past, fits-other, fits-after}
 use Rattle.theory.specs.Judge.Laws.{passes-front, passes-back}
 use Rattle.theory.specs.Subtree.Laws.{number-12-13}
 use Rattle.format.specs.Format.{headerOf, Sections, sectionsOf, endWeight}
@@ -93,22 +93,7 @@ module _ (v : ℕ) (x : Sections) (out : List ℕ) where
   refusal-2 : (k : ℕ) → (writeOf v x (length out) ≡ refuse 2 k) ↔ ((k ≡ 0) × (IsVersion v → ⊥))
   refusal-2 k = (
     λ e.
-        let none : FirstFits (partTests v x (length out)) 2 k → ⊥ = λ f.
-        let other : (m : ℕ) → 2 < m → m ≡ 2 → ⊥ = λ m l d. omega arith in
-        fits-none 2 k (fits-past (partTests v x (length out)) [] 2 k (
-          other 31 (omega arith),
-          (
-            other 3 (omega arith),
-            (
-              other 5 (omega arith),
-              (
-                other 6 (omega arith),
-                (other 7 (omega arith), (other 8 (omega arith), (other 11 (omega arith), (other 30 (omega arith), tt)))),
-              ),
-            ),
-          ),
-        ) f .1) in
-        let h = fits-here (versionTest v) (partTests v x (length out)) 2 k none (refusal-is 2 k .0 e) in
+        let h = fits-here (versionTest v) (partTests v x (length out)) 2 k (fits-other _ 2 k refl) (refusal-is 2 k .0 e) in
         (omega (arith, h .1), λ known. not-both (h .2) (known-clear known)),
     λ p. refusal-is 2 k .1 (record {
       earlier = [];
@@ -135,22 +120,8 @@ module _ (v : ℕ) (x : Sections) (out : List ℕ) where
   refusal-31 known k = (
     λ e.
         let first : Passes (versionTest v ∷ []) = (λ j l. known-clear known, tt) in
-        let none : FirstFits later 31 k → ⊥ = λ f.
-        let other : (m : ℕ) → m < 31 → m ≡ 31 → ⊥ = λ m l d. omega arith in
-        fits-none 31 k (fits-past later [] 31 k (
-          other 3 (omega arith),
-          (
-            other 5 (omega arith),
-            (
-              other 6 (omega arith),
-              (
-                other 7 (omega arith),
-                (other 8 (omega arith), (other 11 (omega arith), (other 30 (omega arith), tt))),
-              ),
-            ),
-          ),
-        ) f .1) in
-        let h = fits-here (lengthTest v x) later 31 k none (fits-after (versionTest v ∷ []) (lengthTest v x ∷ later) 31 k first (refusal-is 31 k .0 e)) in
+        let h = fits-here (lengthTest v x) later 31 k (fits-other later 31 k refl)
+        (fits-after (versionTest v ∷ []) (lengthTest v x ∷ later) 31 k first (refusal-is 31 k .0 e)) in
         (h .1, h .2, h .3),
     λ p. refusal-is 31 k .1 (record {
       earlier = versionTest v ∷ [];
@@ -181,22 +152,7 @@ module _ (v : ℕ) (x : Sections) (out : List ℕ) where
   refusal-30 : (k : ℕ) → (writeOf v x (length out) ≡ refuse 30 k) ↔ ((k ≡ 0) × Passes earlier × (length out < len))
   refusal-30 k = (
     λ e.
-        let p = fits-past earlier (roomTest v x (length out) ∷ []) 30 k (
-          (λ d. absurd (omega arith)),
-          (
-            (λ d. absurd (omega arith)),
-            (
-              (λ d. absurd (omega arith)),
-              (
-                (λ d. absurd (omega arith)),
-                (
-                  (λ d. absurd (omega arith)),
-                  ((λ d. absurd (omega arith)), ((λ d. absurd (omega arith)), ((λ d. absurd (omega arith)), tt))),
-                ),
-              ),
-            ),
-          ),
-        ) (refusal-is 30 k .0 e) in
+        let p = fits-past earlier (roomTest v x (length out) ∷ []) 30 k refl (refusal-is 30 k .0 e) in
         let h = fits-here (roomTest v x (length out)) [] 30 k (fits-none 30 k) (p .1) in
         (omega (arith, h .1), p .0, ltb-true (length out) len (h .2)),
     λ p. refusal-is 30 k .1 (record {
@@ -214,13 +170,13 @@ module _ (v : ℕ) (x : Sections) (out : List ℕ) where
 
   -- The numbers of the writer's refusals.
   abbrev numbers : List ℕ
-  numbers = 2 ∷ 31 ∷ 3 ∷ 5 ∷ 6 ∷ 7 ∷ 8 ∷ 11 ∷ 30 ∷ []
+  numbers = 2 ∷ 31 ∷ 3 ∷ 5 ∷ 6 ∷ 7 ∷ 14 ∷ 8 ∷ 11 ∷ 30 ∷ []
 
   one-of : isOneOf (numberIn (writeOf v x (length out))) numbers ≡ true
   unfolding isOneOf writeOf
   one-of =
       judge-number numberIn refuse (Total len) numbers (λ n k. refl) refl tests
-      (refl, (refl, (refl, (refl, (refl, (refl, (refl, (refl, (refl, tt)))))))))
+      (refl, (refl, (refl, (refl, (refl, (refl, (refl, (refl, (refl, (refl, tt))))))))))
 
   code : (writeCode (writeOf v x (length out)) ≡ 0) ↔ ((n : ℕ) × (writeOf v x (length out) ≡ Total n))
   unfolding isOneOf
@@ -238,7 +194,16 @@ module _ (v : ℕ) (x : Sections) (out : List ℕ) where
       let l : Limits (sizesIn v x) = limits (sizesIn v x) (t .0) in
       fits-place 65536 n k _ (
         omega (arith, l .states-most),
-        (omega (arith, l .rules-most), (omega (arith, l .rules-most), (omega (arith, l .layers-most), (omega (arith, l .leaves-most), (omega arith, tt))))),
+        (
+          omega (arith, l .rules-most),
+          (
+            omega (arith, l .rules-most),
+            (
+              omega (arith, l .rules-most),
+              (omega (arith, l .layers-most), (omega (arith, l .leaves-most), (omega arith, tt))),
+            ),
+          ),
+        ),
       ) (t .1))
       (fits-split (countTest (sizesIn v x)) _ n k (s .1)))
       (fits-split (lengthTest v x) later n k (u .1)))

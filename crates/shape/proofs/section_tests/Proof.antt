@@ -38,8 +38,8 @@ returns-3 : tie.Need-returns-3
 unfolding testedOf
 returns-3 c = search (judged, needs)
 
-layer-fault-requires : tie.Need-layer-fault-requires
-layer-fault-requires c κs = search needs
+order-fault-requires : tie.Need-order-fault-requires
+order-fault-requires c κs = search needs
 
 cast-place-3 : tie.Need-cast-place-3
 cast-place-3 c = search needs
@@ -48,9 +48,19 @@ returns-4 : tie.Need-returns-4
 unfolding testedOf
 returns-4 c = search (judged, needs)
 
+layer-fault-requires : tie.Need-layer-fault-requires
+layer-fault-requires c κs = search needs
+
+cast-place-4 : tie.Need-cast-place-4
+cast-place-4 c = search needs
+
 returns-5 : tie.Need-returns-5
 unfolding testedOf
 returns-5 c = search (judged, needs)
+
+returns-6 : tie.Need-returns-6
+unfolding testedOf
+returns-6 c = search (judged, needs) depth 6
 
 pub section-tests-spec : {M : Type 1} → statement M
 section-tests-spec =
@@ -66,7 +76,10 @@ section-tests-spec =
     repeat-fault-requires
     cast-place-2
     returns-3
-    layer-fault-requires
+    order-fault-requires
     cast-place-3
     returns-4
-    returns-5)
+    layer-fault-requires
+    cast-place-4
+    returns-5
+    returns-6)

@@ -1,8 +1,8 @@
 -- Laws for the functions of the shape. Assumes nothing.
 use mathlib.Core.Path.{_≡_, refl, sym, ap, _∙_}
-use mathlib.Core.Bool.{Bool, true, false, not, _||_, or-false}
+use mathlib.Core.Bool.{Bool, true, false, not, _||_, _&&_, or-false}
 use mathlib.Core.List.{List, [], _∷_, _++_}
-use Prim.Native.Nat.{ℕ, suc, _+_, _-_, _≤_, _<_}
+use Prim.Native.Nat.{ℕ, zero, suc, _+_, _-_, _≤_, _<_}
 use native.Mathlib.Decide.{decLt}
 use native.Mathlib.Omega.{arith}
 use mathlib.Core.Logic.{by-cases}
@@ -10,16 +10,16 @@ use borrow.Author.Tests.{lt-ltb, le-ltb, eq-eqb, ne-eqb, eqb-true, eqb-false}
 use lib.Dec.{ltb, eqb}
 use lib.ListN.{length}
 use Rattle.theory.specs.Bool.Laws.{by-test}
-use Rattle.theory.specs.Below.{firstBelow, anyBelow}
+use Rattle.theory.specs.Below.{Clear, firstBelow, anyBelow}
 use Rattle.theory.specs.Below.Laws.{first-is, first-passes, first-lowest}
-use Rattle.theory.specs.Below.Scan.{first-any, found}
-use Rattle.format.specs.Format.{sections, sectionsOf, isInput, ruleOf}
+use Rattle.theory.specs.Below.Scan.{clear-more, first-hit, first-end, first-any, found}
+use Rattle.format.specs.Format.{sections, sectionsOf, isInput, ruleOf, ruleBefore}
 use Rattle.format.specs.declared.Sizes.{Sizes}
 use Rattle.format.specs.declared.Header.{Header}
 use Rattle.format.specs.declared.Rule.{Rule}
 use Rattle.theory.specs.Judge.{judge}
 use Rattle.theory.specs.Judge.Laws.{judge-map}
-use Rattle.shape.specs.Shape.{refusal, nth, badRecord, inLayer, tooLarge, badState, badFields, badRule, badLayer}
+use Rattle.shape.specs.Shape.{refusal, nth, badRecord, notAfter, inLayer, tooLarge, badState, badFields, badRule, outOfOrder, badLayer}
 use Rattle.shape.specs.Shape.{sectionTests, byShape}
 use Rattle.shape.specs.Code.{testedOf, asShape, refusalOf}
 use Rattle.shape.specs.declared.Refusal.{Refusal}
@@ -129,6 +129,57 @@ module _ (z : Sizes) (states : List ℕ) where
 -- The rule x has been read.
 pub bad-read : (z : Sizes) (rules : List ℕ) (r : ℕ) (x : Rule) (t : Bool) → x ≡ ruleOf rules r → t ≡ badFields z x → t ≡ badRule z rules r
 bad-read z rules r x t e h = h ∙ ap (badFields z) e
+
+-- ---- The order test
+
+-- In version 2 it is a test of neighbours.
+tried : (z : Sizes) (rules : List ℕ) → z .version ≡ 2 → firstBelow (z .rules) (notAfter rules) ≡ firstBelow (z .rules) (outOfOrder z rules)
+unfolding outOfOrder
+tried z rules v = ap (λ t. firstBelow (z .rules) (λ r. t && notAfter rules r)) (sym (eq-eqb (z .version) 2 v))
+
+-- The search for a rule out of order has come to rule i: x is the one before it, and no rule below i is out of order.
+pub record InOrderTo (rules : List ℕ) (x : Rule) (i : ℕ) : Type 0 where
+  pub some : 0 < i
+  pub before : x ≡ ruleOf rules (i - 1)
+  pub clear : Clear (notAfter rules) i
+
+pub order-begins : (rules : List ℕ) (x : Rule) → x ≡ ruleOf rules 0 → InOrderTo rules x 1
+order-begins rules x e = record { some = omega arith; before = e; clear = λ k l. first-rule k (omega arith) }
+  where
+    first-rule : (k : ℕ) → k ≡ 0 → notAfter rules k ≡ false
+    first-rule zero e = refl
+    first-rule (suc k) e = absurd (omega arith)
+
+-- Rule i is y, and t is whether it comes after x.
+module _ (rules : List ℕ) (x y : Rule) (i : ℕ) (t : Bool) (I : InOrderTo rules x i) (e : y ≡ ruleOf rules i) (h : t ≡ ruleBefore x y) where
+  read-there : not t ≡ notAfter rules i
+  read-there = go i (I .some) (I .before) e
+    where
+      go : (k : ℕ) → 0 < k → x ≡ ruleOf rules (k - 1) → y ≡ ruleOf rules k → not t ≡ notAfter rules k
+      go zero l b e = absurd (omega arith)
+      go (suc k) l b e =
+          let one : suc k - 1 ≡ k = omega arith in
+          ap not (h ∙ ap (λ v. ruleBefore v y) (b ∙ ap (ruleOf rules) one) ∙ ap (ruleBefore (ruleOf rules k)) e)
+
+  pub order-goes-on : not t ≡ false → InOrderTo rules y (i + 1)
+  order-goes-on u = record {
+    some = omega arith;
+    before = let one : i ≡ i + 1 - 1 = omega arith in e ∙ ap (ruleOf rules) one;
+    clear = clear-more (notAfter rules) i (not t) (I .clear) read-there u;
+  }
+
+  pub order-stops : (z : Sizes) → z .version ≡ 2 → i < z .rules → not t ≡ true → i ≡ firstBelow (z .rules) (outOfOrder z rules)
+  order-stops z v l u = first-hit (z .rules) (notAfter rules) i (not t) l (I .clear) read-there u ∙ tried z rules v
+
+pub order-ends : (z : Sizes) (rules : List ℕ) (x : Rule) (i : ℕ) → z .version ≡ 2 → InOrderTo rules x i → z .rules ≤ i
+    → z .rules ≡ firstBelow (z .rules) (outOfOrder z rules)
+order-ends z rules x i v I l =
+    first-end (z .rules) (notAfter rules) (z .rules) (omega arith) (omega arith) (λ k m. I .clear k (omega arith)) ∙ tried z rules v
+
+pub order-untried : (z : Sizes) (rules : List ℕ) → (z .version ≡ 2 → ⊥) → z .rules ≡ firstBelow (z .rules) (outOfOrder z rules)
+unfolding outOfOrder
+order-untried z rules n =
+    first-end (z .rules) (outOfOrder z rules) (z .rules) (omega arith) (omega arith) (λ k l. rw (ne-eqb (z .version) 2 n))
 
 pub layer-found : (z : Sizes) (rules layers : List ℕ) (l j : ℕ) (t : Bool) → t ≡ anyBelow (z .rules) (inLayer rules l)
     → j ≡ firstBelow (z .states) (tooLarge (z .states) layers l)

@@ -1,6 +1,6 @@
 -- A shape is sound just where the docket keeps the rules of tests 1 to 8. Assumes nothing.
 use mathlib.Core.Path.{_≡_, refl, sym, ap, _∙_, subst}
-use mathlib.Core.Bool.{Bool, true, false, not, _||_, _&&_}
+use mathlib.Core.Bool.{Bool, true, false, not, _||_, _&&_, and-false}
 use mathlib.Core.List.{List}
 use mathlib.Core.Logic.{_↔_, ⊎-elim, ⊎-map}
 use Prim.Native.Nat.{ℕ, zero, suc, _+_, _≤_, _<_}
@@ -14,20 +14,20 @@ use Rattle.theory.specs.Below.Laws.{any-elim, any-intro, any-fails}
 use Rattle.theory.specs.Protocol.{WellFormed}
 use Rattle.theory.specs.Ladder.{OrderedPartition}
 use Rattle.format.specs.Bytes.{section}
-use Rattle.format.specs.Format.{headerOf, Sections, sectionsOf, flags, isInput, fixedOf, ruleP, ruleQ, ruleP′, ruleQ′, ruleLayer, ruleOf, layerWeight}
+use Rattle.format.specs.Format.{headerOf, Sections, sectionsOf, isInput, ruleP, ruleQ, ruleP′, ruleQ′, ruleLayer, ruleOf, layerWeight}
 use Rattle.format.specs.Format.{protocolOf, layersOf}
 use Rattle.format.specs.declared.Sizes.{Sizes}
 use Rattle.format.specs.declared.Header.{Header}
 use Rattle.theory.specs.Judge.{Passes}
-use Rattle.theory.specs.Judge.Laws.{judge-passes, passes-judge}
+use Rattle.theory.specs.Judge.Laws.{judge-passes, passes-judge, passes-both}
 use Rattle.shape.specs.Shape.{refusal, wrongVersion, countFaults, offsetFaults, nth, otherBits, tooManyFixed, badRecord}
 use Rattle.shape.specs.Shape.{sameBefore, sameRule, inLayer, tooLarge}
-use Rattle.shape.specs.Shape.{badState, badRule, repeats, badLayer, sectionTests, shapeTests, headerShape, shapeOf}
+use Rattle.shape.specs.Shape.{badState, badRule, repeats, outOfOrder, badLayer, sectionTests, headerTests, shapeTests, headerShape, shapeOf}
 use Rattle.shape.specs.declared.Refusal.{Refusal}
 use Rattle.shape.specs.declared.Shape.{Shape}
 use Rattle.shape.specs.declared.Shape.the-variants.{Sound, Refused}
 use Rattle.shape.specs.Shape.Marks.{pair-same}
-use Rattle.shape.specs.Sound.{IsVersion, Limits, Laid, SoundSections, SoundShape}
+use Rattle.shape.specs.Sound.{IsVersion, Limits, Laid, InOrder, SoundSections, SoundShape}
 use Rattle.shape.specs.Code.{Lengths}
 
 -- ---- The version
@@ -93,14 +93,27 @@ module _ (z : Sizes) where
         at-end : ℕ → Bool
         at-end s = eqb s (z .states) && not (anyBelow (z .states) (isInput z states))
 
-    -- Test 7.
+    -- Test 7. Rules with the same four states are found equal.
+    pub same-rule : (e r : ℕ) → ruleP rules e ≡ ruleP rules r → ruleQ rules e ≡ ruleQ rules r → ruleP′ rules e ≡ ruleP′ rules r
+        → ruleQ′ rules e ≡ ruleQ′ rules r → sameRule rules r e ≡ true
+    same-rule e r p q p′ q′ = and-intro _ _ (and-intro _ _ (eq-eqb _ _ p) (eq-eqb _ _ q)) (and-intro _ _ (eq-eqb _ _ p′) (eq-eqb _ _ q′))
+
     repeat-clear : Clear (repeats rules) (z .rules) → (e r : ℕ) → e < r → r < z .rules → ruleP rules e ≡ ruleP rules r → ruleQ rules e ≡ ruleQ rules r
         → ruleP′ rules e ≡ ruleP′ rules r → ruleQ′ rules e ≡ ruleQ′ rules r → ⊥
     unfolding repeats
     repeat-clear clear e r k l p q p′ q′ =
-        not-both
-        (and-intro _ _ (and-intro _ _ (eq-eqb _ _ p) (eq-eqb _ _ q)) (and-intro _ _ (eq-eqb _ _ p′) (eq-eqb _ _ q′)))
-        (any-fails r (sameRule rules r) (clear r l) e k)
+        not-both (same-rule e r p q p′ q′) (any-fails r (sameRule rules r) (clear r l) e k)
+
+    -- Test 14.
+    order-clear : Clear (outOfOrder z rules) (z .rules) → z .version ≡ 2 → InOrder (z .rules) rules
+    unfolding outOfOrder
+    order-clear clear v r l = not-false _ (is-false _ (λ e. not-both (and-intro _ _ (eq-eqb _ _ v) e) (clear (suc r) l)))
+
+    pub clear-order : (z .version ≡ 2 → InOrder (z .rules) rules) → Clear (outOfOrder z rules) (z .rules)
+    unfolding outOfOrder
+    clear-order up zero l = and-false (eqb (z .version) 2)
+    clear-order up (suc r) l =
+        is-false _ (λ e. let f = and-elim (eqb (z .version) 2) _ e in not-both (f .1) (ap not (up (eqb-true _ _ (f .0)) r l)))
 
     -- Test 8.
     layer-clear : Clear (badLayer z rules layers) (z .layers) → (l : ℕ) → l < z .layers
@@ -156,9 +169,9 @@ module _ (z : Sizes) where
         (g .differ))
         (lt-leb _ _ (g .layer-lt))
 
-    -- Tests 5 to 8.
+    -- Tests 5 to 8, with 14.
     pub sound-sections : Passes (sectionTests z x) → SoundSections z x
-    sound-sections (t5, (t6, (t7, (t8, end)))) =
+    sound-sections (t5, (t6, (t7, (t14, (t8, end))))) =
         let inputs = state-clear t5 in
         let rule : (r : ℕ) → r < z .rules → SoundRule r = λ r l. rule-clear r (t6 r l) in
         record {
@@ -179,12 +192,13 @@ module _ (z : Sizes) where
             non-empty = λ k l. let f = any-elim _ _ (layer-clear t8 k l .0) in (f .0, f .1, eqb-true _ _ (f .2));
           };
           rules-distinct = repeat-clear t7;
+          ascending = order-clear t14;
           weights-most = λ l s k m. ltb-false _ _ (any-fails _ _ (layer-clear t8 l k .1) s m);
         }
 
     sections-sound : SoundSections z x → Passes (sectionTests z x)
     unfolding badState repeats badLayer
-    sections-sound g = (t5, (t6, (t7, (t8, tt))))
+    sections-sound g = (t5, (t6, (t7, (clear-order (g .ascending), (t8, tt)))))
       where
         P : WellFormed (protocolOf z states rules)
         P = g .formed
@@ -266,17 +280,11 @@ module _ (b : List ℕ) (h : Header) where
     sections = sound-sections (h .sizes) (sectionsOf b h) rest;
   }
 
-  pub sound-passes : SoundShape b h → Passes (shapeTests b h)
-  sound-passes g = (t1, (t2, (t3, (t4, sections-sound (h .sizes) (sectionsOf b h) (g .sections)))))
+  pub header-passes : IsVersion (h .sizes .version) → Limits (h .sizes) → Laid b h → Passes (headerTests b h)
+  header-passes v L D = (t1, (t2, (t3, (t4, tt))))
     where
       z : Sizes
       z = h .sizes
-
-      L : Limits z
-      L = g .limits
-
-      D : Laid b h
-      D = g .laid
 
       t1 : (k : ℕ) → k < 1 → ltb (length b) 24 || not (eqb (length b) (h .at .total)) ≡ false
       t1 k l =
@@ -284,7 +292,7 @@ module _ (b : List ℕ) (h : Header) where
           (ap not (eq-eqb _ _ (D .whole)))
 
       t2 : (k : ℕ) → k < 1 → wrongVersion (z .version) ≡ false
-      t2 k l = version-passes (z .version) .1 (g .version)
+      t2 k l = version-passes (z .version) .1 v
 
       t3 : Clear (nth (countFaults z)) 5
       t3 zero l = or-none _ _ (le-ltb _ _ (L .states-least)) (le-ltb _ _ (L .states-most))
@@ -306,6 +314,11 @@ module _ (b : List ℕ) (h : Header) where
       t4 (suc (suc (suc (suc zero)))) l = ap not (eq-eqb _ _ (D .leaves))
       t4 (suc (suc (suc (suc (suc zero))))) l = ap not (eq-eqb _ _ (D .total))
       t4 (suc (suc (suc (suc (suc (suc k)))))) l = absurd (omega arith)
+
+  pub sound-passes : SoundShape b h → Passes (shapeTests b h)
+  sound-passes g =
+      passes-both (headerTests b h) (sectionTests (h .sizes) (sectionsOf b h))
+      (header-passes (g .version) (g .limits) (g .laid)) (sections-sound (h .sizes) (sectionsOf b h) (g .sections))
 
   lengths : SoundShape b h → Lengths b h
   lengths g = record {

@@ -1,13 +1,13 @@
 -- The code's branches follow the judgement, and a check passes just where no place of any test is bad. Assumes nothing.
 use mathlib.Core.Path.{_≡_, refl, sym, ap, _∙_, subst}
-use mathlib.Core.Bool.{Bool, true, false}
-use mathlib.Core.List.{List, [], _∷_, _++_}
+use mathlib.Core.Bool.{Bool, true, false, _||_}
+use mathlib.Core.List.{List, [], _∷_, _++_, append-nil}
 use mathlib.Core.Logic.{_⊎_, inl, inr, ⊎-elim}
 use Prim.Native.Nat.{ℕ, _≤_, _<_}
 use native.Mathlib.Omega.{arith}
-use borrow.Author.Tests.{lt-ltb, le-ltb, ltb-true, ltb-false}
-use lib.Dec.{ltb}
-use Rattle.theory.specs.Bool.Laws.{by-test, not-both}
+use borrow.Author.Tests.{lt-ltb, le-ltb, ltb-true, ltb-false, eqb-false}
+use lib.Dec.{ltb, eqb}
+use Rattle.theory.specs.Bool.Laws.{by-test, not-both, or-fails}
 use Rattle.theory.specs.Below.Laws.{first-is, first-passes, first-lowest}
 use Rattle.theory.specs.Below.{Clear}
 use Rattle.theory.specs.Below.Scan.{first-clear}
@@ -178,16 +178,23 @@ fits-none n k f = go (f .earlier) (f .in-order)
     go [] e = let z : _≡_ {A = ℕ} 0 1 = cc in omega arith
     go (u ∷ us) e = let z : _≡_ {A = ℕ} 0 1 = cc in omega arith
 
--- No test has number n.
-abbrev pub Without : ℕ → List Test → Type 0
-Without n [] = Unit {0}
-Without n (t ∷ ts) = (t .number ≡ n → ⊥) × Without n ts
+-- Whether one of the tests has number n.
+abbrev pub numbered : ℕ → List Test → Bool
+numbered n [] = false
+numbered n (t ∷ ts) = eqb (t .number) n || numbered n ts
 
--- The first that fits stands behind tests of other numbers, and behind tests that pass.
-pub fits-past : (us vs : List Test) (n k : ℕ) → Without n us → FirstFits (us ++ vs) n k → Passes us × FirstFits vs n k
+-- The first that fits stands behind tests of other numbers, and behind tests that pass; where all have other numbers, none fits.
+pub fits-past : (us vs : List Test) (n k : ℕ) → numbered n us ≡ false → FirstFits (us ++ vs) n k → Passes us × FirstFits vs n k
 fits-past [] vs n k w f = (tt, f)
 fits-past (u ∷ us) vs n k w f =
-    ⊎-elim (λ h. absurd (w .0 (h .0))) (λ s. let r = fits-past us vs n k (w .1) (s .1) in ((s .0, r .0), r .1)) (fits-split u (us ++ vs) n k f)
+    let o = or-fails (eqb (u .number) n) (numbered n us) w in
+    ⊎-elim
+    (λ h. absurd (eqb-false (u .number) n (o .0) (h .0)))
+    (λ s. let r = fits-past us vs n k (o .1) (s .1) in ((s .0, r .0), r .1))
+    (fits-split u (us ++ vs) n k f)
+
+pub fits-other : (ts : List Test) (n k : ℕ) → numbered n ts ≡ false → FirstFits ts n k → ⊥
+fits-other ts n k w f = fits-none n k (fits-past ts [] n k w (subst (λ us. FirstFits us n k) (sym (append-nil ts)) f) .1)
 
 pub fits-after : (us vs : List Test) (n k : ℕ) → Passes us → FirstFits (us ++ vs) n k → FirstFits vs n k
 fits-after [] vs n k p f = f

@@ -118,21 +118,24 @@ module _ (v : ℕ) (x : Sections) (known : IsVersion v) (w : WholeRecords v x) (
       sections-behind (sizesIn v x) (headerBytes (headerFor (sizesIn v x))) (x .states) (x .rules) (x .layers) (x .nodes) (x .leaves)
       (header-length (headerFor (sizesIn v x))) (w .states) (w .rules) (w .layers some) (w .nodes) (w .leaves some)
 
+  pub written-laid : Laid (docketOf v x) (headerFor (sizesIn v x))
+  written-laid = record {
+    states = refl;
+    rules = refl;
+    layers = refl;
+    nodes = refl;
+    leaves = refl;
+    total = refl;
+    whole = sym (total-length v x w some);
+  }
+
   -- It has a sound shape, where its records do.
   pub written-sound : Passes (sectionTests (sizesIn v x) x) → SoundShape (docketOf v x) (headerFor (sizesIn v x))
   written-sound p = record {
     header = sym header-same;
     version = known;
     limits = L;
-    laid = record {
-      states = refl;
-      rules = refl;
-      layers = refl;
-      nodes = refl;
-      leaves = refl;
-      total = refl;
-      whole = sym (total-length v x w some);
-    };
+    laid = written-laid;
     sections = subst (SoundSections (sizesIn v x)) (sym sections-same) (sound-sections (sizesIn v x) x p);
   }
 

@@ -10,17 +10,13 @@
  * order, in version 2 in one alone, which is that of the table below.
  * Exit status: 0 the docket was saved, 1 something was refused, 2 bad usage or a file that cannot be written.
  */
-#include <inttypes.h>
-#include <stdint.h>
-#include <stdio.h>
-#include <string.h>
+#define PROGRAM "table_editor"
+#include "shared.h"
 
-#include "docket.h"
+#include <string.h>
 
 #define LENGTH(table) (sizeof(table) / sizeof(table)[0])
 #define SET(state) (UINT64_C(1) << (state))
-
-enum { DONE = 0, REFUSED = 1, TROUBLE = 2 };
 
 /* The bits of a state, and the kinds of nodes. */
 enum { VERDICT_1 = 1, INPUT = 2 };
@@ -232,35 +228,6 @@ static void put_leaves(struct part *part, const struct table *table)
 
 /* ---- the program */
 
-static int trouble(const char *what, const char *why)
-{
-    fprintf(stderr, "table_editor: %s: %s\n", what, why);
-    return TROUBLE;
-}
-
-/* Reads a decimal number. Returns 1 where text is one up to most, else 0. */
-static int read_number(const char *text, uint32_t most, uint32_t *number)
-{
-    uint64_t value = 0;
-    if (*text == '\0')
-        return 0;
-    for (; *text != '\0'; text++) {
-        if (*text < '0' || *text > '9')
-            return 0;
-        value = value * 10 + (uint64_t)(*text - '0');
-        if (value > most)
-            return 0;
-    }
-    *number = (uint32_t)value;
-    return 1;
-}
-
-static int say_refused(const char *who, uint32_t number, uint32_t place)
-{
-    printf("%s: refused %" PRIu32 " %" PRIu32 ": %s\n", who, number, place, docket_refusal_text(number));
-    return REFUSED;
-}
-
 static int write_docket(const struct table *table, int reversed, uint8_t *docket, size_t room, uint64_t *total)
 {
     static struct part states, rules, layers, nodes, leaves;
@@ -300,27 +267,25 @@ static int save(const char *name, const uint8_t *docket, size_t len)
 int main(int argc, char **argv)
 {
     static uint8_t docket[DOCKET_MAX_BYTES];
-    uint32_t room = sizeof docket;
-    uint64_t total = 0;
+    uint64_t number = 0, room = sizeof docket, total = 0;
     int reversed = argc > 1 && strcmp(argv[1], "-r") == 0;
     argc -= reversed;
     argv += reversed;
-    if (argc < 3 || argc > 5) {
-        fprintf(stderr, "usage: table_editor [-r] TABLE FILE [NUMBER [ROOM]]\n");
-        return TROUBLE;
-    }
+    if (argc < 3 || argc > 5)
+        return usage("[-r] TABLE FILE [NUMBER [ROOM]]");
     const struct table *table = find_table(argv[1]);
     if (table == NULL)
         return trouble(argv[1], "no such table");
-    if (argc > 3 && !read_number(argv[3], UINT32_MAX >> (32 - table->bits), table->number))
+    if (argc > 3 && !read_number(argv[3], UINT32_MAX >> (32 - table->bits), &number))
         return trouble(argv[3], table->bits == 32 ? "not a number of 32 bits" : "not a number of 16 bits");
+    if (argc > 3)
+        *table->number = (uint32_t)number;
     if (argc > 4 && !read_number(argv[4], sizeof docket, &room))
         return trouble(argv[4], "not a number up to 65535");
     int status = write_docket(table, reversed, docket, room, &total);
     if (status == DONE)
         status = check(docket, total);
-    if (fflush(stdout) != 0 || ferror(stdout))
-        return trouble("standard output", "cannot be written");
+    status = printed(status);
     if (status == DONE && !save(argv[2], docket, total))
         return trouble(argv[2], "cannot be written");
     return status;

@@ -96,9 +96,10 @@
 extern "C" {
 #endif
 
-#define DOCKET_VERSION "0.6.0"   /* of this header and its library, not of a docket */
+#define DOCKET_VERSION "0.7.0"   /* of this header and its library, not of a docket */
 #define DOCKET_MAX_BYTES 65535   /* a longer file is refused with 1, 0; so read at most one byte more */
 #define DOCKET_MAX_STATES 64     /* counts for every docket fit an array of so many */
+#define DOCKET_MAX_RULES 256     /* a number for each rule of every docket fits an array of so many */
 #define DOCKET_STACK 65536       /* bytes of stack that are enough for every function */
 
 /* Tests 1 to 13: 0 where the docket is accepted. */
@@ -113,7 +114,12 @@ uint64_t docket_figures(const uint8_t *docket, size_t docket_len, uint64_t figur
    at least the fixed ones in each input. In version 1: workers in inputs only. */
 uint64_t docket_start_test(const uint8_t *docket, size_t docket_len, const uint32_t *counts, size_t counts_len);
 
-/* *answer is 1 where the rule can act, else 0. */
+/* *answer is the number of pairs of workers that could make the meeting. A pair is two different workers, one in p and
+   the other in q, the two states that the rule takes workers from; which is named first does not matter. So the number
+   is the product of the two counts or, where p = q and this state holds c workers, c (c - 1) / 2. It is 0 just where
+   the rule cannot act: to ask for yes or no, test *answer != 0, never *answer == 1. Rules with the same p and q have
+   the same pairs, and each has their number. It is at most 499,999,500,000, for 1,000,000 workers in one state; the
+   sum over all rules is below 2 to the power 47. */
 uint64_t docket_can_act(const uint8_t *docket, size_t docket_len, const uint32_t *counts, size_t counts_len,
                         uint32_t rule, uint64_t *answer);
 

@@ -114,6 +114,7 @@ struct Inputs {
     runs: Vec<(String, Vec<u8>, Vec<u32>)>,
     outcomes: Vec<(String, Vec<u8>, Vec<u32>)>,
     starts: Vec<(String, Vec<u8>, Vec<u32>)>,
+    pairs: Vec<(String, Vec<u8>, Vec<u32>)>,
     writes: Vec<(String, Vec<u8>)>,
 }
 
@@ -124,6 +125,7 @@ impl Inputs {
             runs: runs(),
             outcomes: outcomes(),
             starts: starts(),
+            pairs: pairs(),
             writes: writes(),
         }
     }
@@ -145,6 +147,8 @@ impl Inputs {
         cases.extend(checks.map(|(name, docket, _)| check_case(&format!("check, {name}"), docket)));
         let starts = self.starts.iter();
         cases.extend(starts.map(|(name, docket, counts)| start_case(name, docket, counts)));
+        let pairs = self.pairs.iter();
+        cases.extend(pairs.map(|(name, docket, counts)| can_act_case(name, docket, counts)));
         cases.extend(self.writes.iter().map(|(name, docket)| write_case(name, docket)));
         cases
     }
@@ -342,6 +346,37 @@ fn start_case<'a>(name: &str, docket: &'a [u8], counts: &'a [u32]) -> Case<'a> {
             Box::new(move || native::say(black_box(docket), &mut first, Call::StartTest).code),
             Box::new(move || baseline::start_code(black_box(docket), black_box(counts))),
             Box::new(move || calls::say(black_box(docket), &mut third, Call::StartTest).code),
+        ],
+    }
+}
+
+/// Groups in which the last rule can act.
+fn pairs() -> Vec<(String, Vec<u8>, Vec<u32>)> {
+    let [old, new] = ordered_rules();
+    let most = 1_000_000;
+    [
+        ("2 states", &make::broadcast(), spread(2, most)),
+        ("2 states, own kind", &make::deep(2), vec![most, 0]),
+        ("64 states, 256 rules", &old, spread(64, most)),
+        ("v2, 64 states, 256 rules", &new, spread(64, most)),
+    ]
+    .map(|(name, docket, counts)| (format!("can act, {name}"), docket.bytes(), counts))
+    .into()
+}
+
+/// The answer is the number of pairs of the last rule.
+fn can_act_case<'a>(name: &str, docket: &'a [u8], counts: &'a [u32]) -> Case<'a> {
+    let rules = second::parse(docket).expect("a docket that passes tests 1 to 8").rules;
+    let last = rules.len() as u32 - 1;
+    let [mut first, mut third] = [counts.to_vec(), counts.to_vec()];
+    Case {
+        name: name.into(),
+        unit: "call",
+        units: 1,
+        calls: [
+            Box::new(move || native::say(black_box(docket), &mut first, Call::CanAct(last)).answers[0]),
+            Box::new(move || baseline::can_act(black_box(docket), black_box(counts), last).expect("a number")),
+            Box::new(move || calls::say(black_box(docket), &mut third, Call::CanAct(last)).answers[0]),
         ],
     }
 }

@@ -30,10 +30,10 @@ pub fn start_test(docket: &[u8], counts: &[u32]) -> Result<(), Refusal> {
     Ok(())
 }
 
-/// Whether the rule of this number can act.
-pub fn can_act(docket: &[u8], counts: &[u32], rule: u32) -> Result<bool, Refusal> {
+/// How many pairs of workers could make the meeting of the rule of this number; 0 just where it cannot act.
+pub fn can_act(docket: &[u8], counts: &[u32], rule: u32) -> Result<u128, Refusal> {
     let docket = docket_for(docket, counts)?;
-    Ok(enabled(numbered(&docket, rule)?, counts))
+    Ok(pairs(numbered(&docket, rule)?, counts))
 }
 
 /// Whether no rule can act.
@@ -99,14 +99,19 @@ fn numbered(docket: &Docket, rule: u32) -> Result<&Rule, Refusal> {
     }
 }
 
-/// Whether p and q each hold a worker or, where p = q, at least two.
-fn enabled(rule: &Rule, counts: &[u32]) -> bool {
+/// The number of pairs of one worker of p and one of q or, where p = q, of two different workers of that state.
+fn pairs(rule: &Rule, counts: &[u32]) -> u128 {
     let [p, q] = rule.before;
+    let [in_p, in_q] = [p, q].map(|state| u128::from(counts[state]));
     if p == q {
-        counts[p] >= 2
+        in_p * in_p.saturating_sub(1) / 2
     } else {
-        counts[p] >= 1 && counts[q] >= 1
+        in_p * in_q
     }
+}
+
+fn enabled(rule: &Rule, counts: &[u32]) -> bool {
+    pairs(rule, counts) != 0
 }
 
 /// Removes one worker from p and one from q, then adds one to p' and one to q'.
@@ -192,10 +197,132 @@ mod tests {
     #[test]
     fn a_rule_that_meets_its_own_kind() {
         let bytes = docket("2 3", "0 0 0 1 0", "1 0", TREE).bytes();
-        assert_eq!(can_act(&bytes, &[2, 0], 0), Ok(true));
-        assert_eq!(can_act(&bytes, &[1, 1], 0), Ok(false));
+        assert_eq!(can_act(&bytes, &[2, 0], 0), Ok(1));
+        assert_eq!(can_act(&bytes, &[1, 1], 0), Ok(0));
         let mut counts = [2, 0];
         assert_eq!((step(&bytes, &mut counts, 0), counts), (Ok(()), [1, 1]));
+    }
+
+    /// Counts at the limits of a group, and past them.
+    const LIMITS: [u32; 7] = [0, 1, 2, 500_000, 999_999, 1_000_000, u32::MAX];
+
+    /// Rule 0 of a docket with two states has the numbers of this table, in either version. A row for each count of state 0
+    /// and a column for each of state 1; a dash is refusal 21.
+    fn has_numbers(docket: &Docket, table: [&str; 7]) {
+        let bytes = [docket.bytes(), with_fixed(docket.clone(), [0, 1000]).bytes()];
+        for (first, row) in LIMITS.into_iter().zip(table) {
+            for (second, number) in LIMITS.into_iter().zip(row.split_whitespace()) {
+                let expected = number.parse().map_or(refuse(21, 0), Ok);
+                let said = bytes.each_ref().map(|bytes| can_act(bytes, &[first, second], 0));
+                assert_eq!(said, [expected; 2], "{first} {second}");
+            }
+        }
+    }
+
+    #[test]
+    fn pairs_of_two_states() {
+        let table = [
+            "-  -       0        0             0       0  -",
+            "-  1       2        500000        999999  -  -",
+            "0  2       4        1000000       -       -  -",
+            "0  500000  1000000  250000000000  -       -  -",
+            "0  999999  -        -             -       -  -",
+            "0  -       -        -             -       -  -",
+            "-  -       -        -             -       -  -",
+        ];
+        has_numbers(&broadcast(TREE), table);
+    }
+
+    #[test]
+    fn pairs_within_a_state() {
+        let table = [
+            "-             -             0             0             0  0  -",
+            "-             0             0             0             0  -  -",
+            "1             1             1             1             -  -  -",
+            "124999750000  124999750000  124999750000  124999750000  -  -  -",
+            "499998500001  499998500001  -             -             -  -  -",
+            "499999500000  -             -             -             -  -  -",
+            "-             -             -             -             -  -  -",
+        ];
+        has_numbers(&docket("2 3", "0 0 0 1 0", "1 0", TREE), table);
+    }
+
+    /// Tables of three states: a rule or more for every pair, two rules for one pair, and pairs within a state alone.
+    fn tables() -> [Docket; 3] {
+        let every_pair = "0 0 0 1 0; 0 0 2 2 0; 0 1 1 1 0; 0 1 1 2 0; 0 2 1 2 0; 1 1 0 0 0; 1 2 2 2 0; 2 2 0 0 0";
+        let own_kind = "0 0 0 1 0; 2 2 0 0 0";
+        [
+            docket("2 3 1", every_pair, "0 0 0", TREE),
+            two_outcomes(),
+            docket("2 3 1", own_kind, "0 0 0", TREE),
+        ]
+    }
+
+    /// These tables, each with all groups of two to six workers.
+    fn small_groups() -> Vec<(Docket, [u32; 3])> {
+        let all = (0..7 * 7 * 7).map(|n| [n / 49, n / 7 % 7, n % 7]);
+        let groups = all.filter(|counts| (2..=6).contains(&counts.iter().sum::<u32>()));
+        groups
+            .flat_map(|counts| tables().map(|docket| (docket, counts)))
+            .collect()
+    }
+
+    /// The numbers of all rules.
+    fn numbers(docket: &Docket, counts: &[u32]) -> Vec<u128> {
+        let bytes = docket.bytes();
+        let rules = 0..docket.rules.len() as u32;
+        rules.map(|rule| can_act(&bytes, counts, rule).unwrap()).collect()
+    }
+
+    /// The pairs of different workers in these two states, found in a list of all workers.
+    fn listed_pairs(counts: &[u32], [p, q]: [usize; 2]) -> u128 {
+        let states = counts.iter().enumerate();
+        let workers: Vec<usize> = states.flat_map(|(state, &n)| vec![state; n as usize]).collect();
+        let mut found = 0;
+        for (i, &one) in workers.iter().enumerate() {
+            let others = workers[i + 1..].iter();
+            found += others
+                .filter(|&&other| [one, other] == [p, q] || [other, one] == [p, q])
+                .count();
+        }
+        found as u128
+    }
+
+    #[test]
+    fn pairs_in_a_list_of_the_workers() {
+        for (docket, counts) in small_groups() {
+            let listed = docket.rules.iter().map(|rule| listed_pairs(&counts, rule.before));
+            assert_eq!(numbers(&docket, &counts), listed.collect::<Vec<_>>(), "{counts:?}");
+        }
+    }
+
+    /// A step is refused with 24 just where its rule has no pair.
+    #[test]
+    fn no_pair_and_refusal_24() {
+        let mut met = [0; 2];
+        for (docket, counts) in small_groups() {
+            for (rule, number) in numbers(&docket, &counts).into_iter().enumerate() {
+                let said = step(&docket.bytes(), &mut counts.clone(), rule as u32);
+                let expected = if number == 0 { refuse(24, rule) } else { Ok(()) };
+                assert_eq!(said, expected, "{counts:?}, rule {rule}");
+                met[usize::from(number == 0)] += 1;
+            }
+        }
+        assert!(met.iter().all(|&times| times > 200), "{met:?}");
+    }
+
+    /// A group is at a standstill just where no rule has a pair; a run then says rest.
+    #[test]
+    fn no_pair_and_standstill() {
+        let mut met = [0; 2];
+        for (docket, counts) in small_groups() {
+            let rests = numbers(&docket, &counts).iter().all(|&number| number == 0);
+            assert_eq!(is_standstill(&docket.bytes(), &counts), Ok(rests), "{counts:?}");
+            let ran = run(&docket.bytes(), &mut counts.clone(), 0);
+            assert_eq!(ran, Ok(Ran { steps: 0, rests }), "{counts:?}");
+            met[usize::from(rests)] += 1;
+        }
+        assert!(met.iter().all(|&times| times > 20), "{met:?}");
     }
 
     #[test]
@@ -256,7 +383,7 @@ mod tests {
         runs(&docket, &[2, 1, 0, 0], u32::MAX, &[1, 0, 2, 0], 2, true);
         assert_eq!(verdict(&docket.bytes(), &[1, 0, 2, 0]), Ok(Verdict::Zero));
         assert_eq!(is_standstill(&docket.bytes(), &[1, 0, 2, 0]), Ok(true));
-        assert_eq!(can_act(&docket.bytes(), &[1, 1, 0, 0], 0), Ok(true));
+        assert_eq!(can_act(&docket.bytes(), &[1, 1, 0, 0], 0), Ok(1));
         assert_eq!(stepped(&docket, [1, 1, 0, 0], 0), [0, 0, 1, 1]);
     }
 
@@ -277,7 +404,7 @@ mod tests {
             assert_eq!((&stepped, &ran), (&counts, &counts));
         }
         assert_eq!(start_test(&old, &[1, 1, 0, 0]), Ok(()));
-        assert_eq!(can_act(&old, &[1, 1, 0, 0], 0), Ok(true));
+        assert_eq!(can_act(&old, &[1, 1, 0, 0], 0), Ok(1));
     }
 
     #[test]

@@ -1,5 +1,6 @@
 /*
- * The C boundary: hands every function of docket.h but docket_write exact copies of docket files and of shortened ones.
+ * The C boundary: hands every function of docket.h but docket_write exact copies of docket files and of shortened ones,
+ * and docket_can_act counts at their limits.
  *
  *     boundary FILE.docket...          FILE.expect stands beside each
  *
@@ -14,6 +15,7 @@
 
 enum {
     HEADER = 24,
+    TABLE = HEADER + 2 + RULE + 8 + 12,      /* bytes of a docket with two states, a rule, a layer and a node */
     MOST_LENT = DOCKET_MAX_BYTES + 65536,    /* of what is handed over as a docket */
     MOST_COUNTS = DOCKET_MAX_STATES + 1,
     WORKERS = 1000000,
@@ -169,8 +171,8 @@ static struct outcome try_kind(struct file *file, const struct lent *lent, const
 }
 
 /* Makes the call on every kind of copies, and compares what came of it. */
-static uint64_t try_call(struct file *file, const struct lent *lent, const struct counts *counts,
-                         const struct call *call)
+static struct outcome try_call(struct file *file, const struct lent *lent, const struct counts *counts,
+                               const struct call *call)
 {
     size_t size = counts->len * sizeof(uint32_t);
     struct outcome heap = try_kind(file, lent, counts, call, HEAP);
@@ -180,7 +182,7 @@ static uint64_t try_call(struct file *file, const struct lent *lent, const struc
         expect(file, lent, call, same, "another answer for another copy");
         expect(file, lent, call, memcmp(counts->copy[k], counts->copy[HEAP], size) == 0, "other counts in a copy");
     }
-    return heap.code;
+    return heap;
 }
 
 /* Makes docket_figures on every kind of copies: the code of docket_check, and figures where it is 0. */
@@ -261,23 +263,117 @@ static int starts(const struct file *file, const struct lent *lent, size_t len, 
     return docket_call_number(code) == 22 && docket_call_place(code) == state;
 }
 
+/* Finds the places of the copies of counts. */
+static void lend_counts(struct counts *counts)
+{
+    size_t size = counts->len * sizeof(uint32_t);
+    counts->copy[HEAP] = new_block(size);
+    for (enum kind k = ENDS_AT_GUARD; k < KINDS; k++)
+        counts->copy[k] = (uint32_t *)(void *)place(counts_regions[k], k, size);
+}
+
+/* How many pairs of workers could make the meeting of a rule. */
+static uint64_t pairs(const uint8_t *docket, const uint32_t *counts, uint32_t rule)
+{
+    const uint8_t *record = docket + get16(docket, 14) + RULE * rule;
+    uint64_t in_p = counts[record[0]], in_q = counts[record[1]];
+    if (record[0] != record[1])
+        return in_p * in_q;
+    return in_p < 2 ? 0 : in_p * (in_p - 1) / 2;
+}
+
 static void try_counts(struct file *file, const struct lent *lent, size_t len, enum filling filling)
 {
     struct counts counts = {.len = len};
-    size_t size = len * sizeof(uint32_t);
     for (size_t i = 0; i < len; i++)
         counts.before[i] = filled(file, filling, i);
-    counts.copy[HEAP] = new_block(size);
-    for (enum kind k = ENDS_AT_GUARD; k < KINDS; k++)
-        counts.copy[k] = (uint32_t *)(void *)place(counts_regions[k], k, size);
+    lend_counts(&counts);
     for (size_t i = 0; i < CALLS; i++) {
-        uint64_t code = try_call(file, lent, &counts, &file->calls[i]);
-        expect(file, lent, &file->calls[i], follows(code, lent->checked), "not the refusal that the docket has");
-        expect(file, lent, &file->calls[i], code == 0 || has_text(docket_call_number(code)), "a refusal without a text");
-        if (file->calls[i].function == START_TEST)
-            expect(file, lent, &file->calls[i], starts(file, lent, len, filling, code), "not the answer to a start");
+        const struct call *call = &file->calls[i];
+        struct outcome o = try_call(file, lent, &counts, call);
+        expect(file, lent, call, follows(o.code, lent->checked), "not the refusal that the docket has");
+        expect(file, lent, call, o.code == 0 || has_text(docket_call_number(o.code)), "a refusal without a text");
+        if (call->function == START_TEST)
+            expect(file, lent, call, starts(file, lent, len, filling, o.code), "not the answer to a start");
+        if (call->function == CAN_ACT && o.code == 0)
+            expect(file, lent, call, o.first == pairs(lent->copy[HEAP], counts.before, call->argument),
+                   "not the number of pairs");
     }
     free(counts.copy[HEAP]);
+}
+
+/* A docket of two states with this rule alone. */
+static void make_table(uint8_t table[TABLE], const uint8_t rule[RULE])
+{
+    static const uint8_t header[HEADER] = {1,  0, 2,  0, 1,  0, 1,  0, 1,     0, 0,     0,
+                                           24, 0, 26, 0, 31, 0, 39, 0, TABLE, 0, TABLE, 0};
+    memset(table, 0, TABLE);
+    memcpy(table, header, HEADER);
+    table[HEADER] = 2; /* an input */
+    memcpy(table + HEADER + 2, rule, RULE);
+}
+
+/* Rules that meet another kind and their own. */
+static const uint8_t OTHER[RULE] = {0, 1, 1, 1, 0}, OWN[RULE] = {0, 0, 0, 1, 0};
+
+/* A rule, counts of two states, a rule number, and the number of the refusal, or 0 and the number of pairs. */
+struct meeting {
+    const uint8_t *rule;
+    uint32_t counts[2];
+    uint32_t number;
+    uint32_t refused;
+    uint64_t pairs;
+};
+
+static const struct meeting meetings[] = {
+    {OTHER, {1, 1}, 0, 0, 1},
+    {OTHER, {2, 3}, 0, 0, 6},
+    {OTHER, {0, 2}, 0, 0, 0},
+    {OTHER, {WORKERS, 0}, 0, 0, 0},
+    {OTHER, {WORKERS - 1, 1}, 0, 0, 999999},
+    {OTHER, {65536, 65536}, 0, 0, UINT64_C(4294967296)},
+    {OTHER, {WORKERS / 2, WORKERS / 2}, 0, 0, UINT64_C(250000000000)},
+    {OWN, {0, 2}, 0, 0, 0},
+    {OWN, {1, WORKERS - 1}, 0, 0, 0},
+    {OWN, {2, 0}, 0, 0, 1},
+    {OWN, {3, 7}, 0, 0, 3},
+    {OWN, {65537, 0}, 0, 0, UINT64_C(2147516416)},
+    {OWN, {WORKERS - 1, 1}, 0, 0, UINT64_C(499998500001)},
+    {OWN, {WORKERS, 0}, 0, 0, UINT64_C(499999500000)},
+    {OTHER, {WORKERS, 1}, 0, 21, 0},
+    {OTHER, {UINT32_MAX, UINT32_MAX}, 0, 21, 0},
+    {OWN, {WORKERS + 1, 0}, 0, 21, 0},
+    {OWN, {UINT32_MAX, 3}, 0, 21, 0},
+    {OWN, {1, 0}, 1, 21, 0},
+    {OWN, {WORKERS, 0}, 1, 23, 0},
+    {OTHER, {1, 1}, UINT32_MAX, 23, 0},
+};
+
+static void try_meeting(struct file *file, const struct meeting *m)
+{
+    uint8_t table[TABLE];
+    struct counts counts = {.before = {m->counts[0], m->counts[1]}, .len = 2};
+    const struct call call = {CAN_ACT, m->number};
+    struct lent lent;
+    make_table(table, m->rule);
+    lend(&lent, m->rule == OWN ? "own kind" : "other kind", table, TABLE);
+    lend_counts(&counts);
+    struct outcome o = try_call(file, &lent, &counts, &call);
+    uint32_t refused_at = m->refused == 23 ? m->number : 0;
+    int as_named = docket_call_number(o.code) == m->refused && docket_call_place(o.code) == refused_at;
+    expect(file, &lent, &call, as_named, "another refusal than the counts have");
+    expect(file, &lent, &call, o.code != 0 || o.first == m->pairs, "not the number of pairs");
+    free((void *)(uintptr_t)lent.copy[HEAP]);
+    free(counts.copy[HEAP]);
+}
+
+/* Returns 1 where docket_can_act says what it must of all these, else 0. */
+static int try_meetings(void)
+{
+    static struct file file = {.name = "counts at their limits"};
+    for (size_t i = 0; i < sizeof meetings / sizeof meetings[0]; i++)
+        try_meeting(&file, &meetings[i]);
+    return file.failures == 0;
 }
 
 /* Test 1 of the check. */
@@ -296,7 +392,7 @@ static struct expected try_docket(struct file *file, const char *variant, const 
     struct lent lent;
     struct expected said;
     lend(&lent, variant, bytes, len);
-    lent.checked = try_call(file, &lent, &no_counts, &check);
+    lent.checked = try_call(file, &lent, &no_counts, &check).code;
     said.code = lent.checked;
     try_figures(file, &lent, said.figures);
     expect(file, &lent, &check, said.code == 0 || has_text(docket_check_number(said.code)), "a refusal without a text");
@@ -469,18 +565,19 @@ static int say_calls(void)
 
 int main(int argc, char **argv)
 {
-    int passed = 0;
+    int passed = 0, all = argc;    /* the files, and the meetings */
     for (enum kind k = ENDS_AT_GUARD; k < KINDS; k++) {
         docket_regions[k] = new_region(MOST_LENT);
         counts_regions[k] = new_region(MOST_COUNTS * sizeof(uint32_t));
     }
     no_access = new_no_access();
+    passed += try_meetings();
     for (int i = 1; i < argc; i++)
         passed += try_file(argv[i]);
     if (!say_calls()) {
         printf("a function was refused in every call, or never with 14\n");
         return 1;
     }
-    printf("%d passed, %d failed\n", passed, argc - 1 - passed);
-    return passed == argc - 1 ? 0 : 1;
+    printf("%d passed, %d failed\n", passed, all - passed);
+    return passed == all ? 0 : 1;
 }

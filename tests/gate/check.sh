@@ -20,7 +20,9 @@ stand_in() {
     "$3" "$work" "$work" "$3" "$work" "$3" "$2" >"$1"
   chmod +x "$1"
 }
-many='echo 1000 passed, 0 failed'
+# As many as the part with the greatest least number needs.
+number=$(sed -nE 's/^add ([0-9]+) .*/\1/p' "$root/.ci/run" | sort -n | tail -n 1)
+many="echo $number passed, 0 failed"
 unit='echo "test result: ok. 400 passed; 0 failed; 0 ignored"; echo "test result: ok. 2 passed; 0 failed; 0 ignored"'
 stand_in "$work/bin/rt" "$many" rt
 stand_in "$work/bin/cargo" "if [[ \$1 == test ]]; then $unit; else $many; fi" cargo
@@ -49,7 +51,9 @@ called() { grep -qxF -- "$1" "$work/calls"; }
 gate
 parts=$(grep -cE '^add ' "$root/.ci/run")
 packages=$(grep -cE '^add [0-9]+ units ' "$root/.ci/run")
-holds 'all parts pass, and all unit tests are summed' passes $((1000 * (parts - packages) + 402 * packages))
+holds 'all parts pass, and all unit tests are summed' passes $((number * (parts - packages) + 402 * packages))
+# Where this fails, the gate that is ended below may not come to its middle, and its test would wait for ever.
+if ((failed > 0)); then sum; fi
 for package in second tests bench; do
   holds "all tests of $package are run" called "cargo test --offline --release --quiet --manifest-path $package/Cargo.toml"
 done
@@ -58,10 +62,10 @@ holds 'the layout of the crates is checked' called 'rt fmt --check'
 holds 'the library is made' called 'library '
 
 for part in tests-boundary examples tests-tools tests-gate rt; do
-  gate "$part" 'echo 1000 passed, 0 failed; exit 1'
+  gate "$part" "$many; exit 1"
   holds "$part says that it passed, and then fails" fails
 done
-gate tests-tools 'echo 1000 passed, 1 failed'
+gate tests-tools "echo $number passed, 1 failed"
 holds 'a part in which a test failed' fails
 gate tests-tools ':'
 holds 'a part that says nothing' fails
@@ -78,14 +82,14 @@ holds 'cargo test that fails without a result line' fails
 gate cargo "$(tests_do 'echo test result: ok. 1 passed\; 0 failed\; 0 ignored')"
 holds 'unit tests that are gone' fails
 # shellcheck disable=SC2016
-gate cargo 'if [[ $1 == fmt ]]; then exit 1; fi; echo 1000 passed, 0 failed'
+gate cargo 'if [[ $1 == fmt ]]; then exit 1; fi; '"$many"
 holds 'a file that is not in the layout' fails
 
 # A gate that is ended in its middle: a part says that it passed, and waits.
 mkfifo "$work/begun" "$work/go"
 rm -f "$work"/does.*
 cat >"$work/does.tests-boundary" <<EOF
-echo 1000 passed, 0 failed
+$many
 exec 9>"$work/begun"
 echo \$\$ >&9
 read -r _ <"$work/go" || :

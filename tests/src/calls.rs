@@ -47,7 +47,7 @@ impl Said {
         (self.code != 0).then_some(Refusal { number, place })
     }
 
-    fn done(answers: &[u64]) -> Said {
+    pub fn done(answers: &[u64]) -> Said {
         let mut all = [UNTOUCHED; 2];
         all[..answers.len()].copy_from_slice(answers);
         Said { code: 0, answers: all }
@@ -66,7 +66,7 @@ impl Said {
 pub fn say(docket: &[u8], counts: &mut [u32], call: Call) -> Said {
     let said = match call {
         Call::StartTest => second::start_test(docket, counts).map(|()| Said::done(&[])),
-        Call::CanAct(rule) => second::can_act(docket, counts, rule).map(|t| Said::done(&[u64::from(t)])),
+        Call::CanAct(rule) => second::can_act(docket, counts, rule).map(|n| Said::done(&[in_64_bits(n)])),
         Call::IsStandstill => second::is_standstill(docket, counts).map(|t| Said::done(&[u64::from(t)])),
         Call::Verdict => second::verdict(docket, counts).map(|v| Said::done(&[verdict_number(v)])),
         Call::Step(rule) => second::step(docket, counts, rule).map(|()| Said::done(&[])),
@@ -78,6 +78,10 @@ pub fn say(docket: &[u8], counts: &mut [u32], call: Call) -> Said {
 /// What the writer of the second implementation says, as docket_write says it: the total is the first answer.
 pub fn write(version: u32, parts: [&[u8]; 5], output: &mut [u8]) -> Said {
     second::write(version, parts, output).map_or_else(Said::refused, |total| Said::done(&[total as u64]))
+}
+
+fn in_64_bits(number: u128) -> u64 {
+    u64::try_from(number).expect("a number of pairs of 64 bits")
 }
 
 fn verdict_number(verdict: Verdict) -> u64 {

@@ -7,6 +7,7 @@ pub mod make;
 pub mod native;
 pub mod order;
 pub mod outcomes;
+pub mod pairs;
 pub mod parts;
 pub mod prover;
 pub mod random;

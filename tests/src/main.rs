@@ -6,21 +6,22 @@
 //!
 //! The last line is `N passed, 0 failed`; a difference is printed with the docket in hexadecimal and both answers.
 
-use second::Docket;
+use second::{Docket, Refusal};
 use std::io::Write;
 use std::path::{Path, PathBuf};
 use std::process::{Command, Stdio};
-use tests::calls::{self, check_code, Call, Said, UNTOUCHED};
+use tests::calls::{self, check_code, Call, Said};
 use tests::make::{fixed, remainder};
 use tests::random::Random;
 use tests::tally::Tally;
-use tests::{damage, fixed as fixed_agents, make, native, order, outcomes, parts, prover, remainders, samples};
+use tests::{damage, fixed as fixed_agents, make, native, order, outcomes, pairs, parts, prover, remainders, samples};
 use tests::{versions, writing};
 
 const THREADS: u64 = 2;
 const DOCKETS: u64 = 400_000;
 const LISTS: u64 = 100_000;
 const WRITES: u64 = 150_000;
+const GROUPS: u64 = 30_000;
 const LINES: u64 = 4_000;
 
 /// One of so many dockets of version 1, and of lists of calls on them, is tried in version 2 too.
@@ -64,7 +65,8 @@ fn main() {
     results.expect("accepted dockets of version 1 in version 2", pool.version_problem());
     let tally = compare_all(&pool, seed, times);
     report(&tally);
-    results.expect("both implementations say the same", differences(&tally));
+    results.expect("both implementations say the same", first_of(&tally.differences));
+    results.expect("the library keeps the laws of pairs", first_of(&tally.pairs.broken));
     let missing = tally.not_reached();
     results.expect(
         "the inputs reach every test",
@@ -100,6 +102,7 @@ fn report(tally: &Tally) {
     );
     report_fixed(tally);
     report_order(tally);
+    report_pairs(tally);
     report_writes(tally);
 }
 
@@ -163,9 +166,19 @@ fn report_order(tally: &Tally) {
     );
 }
 
-fn differences(tally: &Tally) -> Option<String> {
-    let shown: Vec<String> = tally.differences.iter().take(5).cloned().collect();
-    (!shown.is_empty()).then(|| format!("{} differences\n{}", tally.differences.len(), shown.join("\n")))
+fn report_pairs(tally: &Tally) {
+    let pairs = &tally.pairs;
+    println!("rules by version, own kind and number of pairs: {:?}", pairs.numbers);
+    println!(
+        "their groups by refusal (0: none) and workers: {:?}; by standstill: {:?}",
+        pairs.groups, pairs.rests
+    );
+}
+
+/// How many problems there are, and the first five of them.
+fn first_of(problems: &[String]) -> Option<String> {
+    let shown: Vec<String> = problems.iter().take(5).cloned().collect();
+    (!shown.is_empty()).then(|| format!("{} times\n{}", problems.len(), shown.join("\n")))
 }
 
 // ---- Samples and corpus
@@ -187,9 +200,14 @@ fn run_samples(results: &mut Results) {
         outcomes::calls(),
         fixed_agents::calls(),
         order::calls(),
+        pairs::calls(),
     ];
     for sample in calls.into_iter().flatten() {
         results.expect(sample.name, call_problem(&sample));
+    }
+    for (name, docket) in pairs::tables() {
+        let problem = pairs::problem_at_limits(&native::say, &docket);
+        results.expect(&format!("pairs at limits: {name}"), problem);
     }
     for (name, problem) in writing::samples() {
         results.expect(&format!("writer: {name}"), problem);
@@ -218,22 +236,15 @@ fn figures_agree(docket: &[u8]) -> bool {
 }
 
 fn call_problem(sample: &samples::CallSample) -> Option<String> {
+    let refused = |&(number, place): &(u32, u32)| Said::refused(Refusal { number, place });
+    let expected = sample.said.as_ref().map_or_else(refused, |answers| Said::done(answers));
     for say in [native::say, calls::say] {
         let mut counts = sample.counts.clone();
         let said = say(&sample.docket, &mut counts, sample.call);
-        let answers = said
-            .answers
-            .iter()
-            .copied()
-            .filter(|&answer| answer != UNTOUCHED)
-            .collect();
-        let heard = said
-            .refusal()
-            .map_or(Ok(answers), |refusal| Err((refusal.number, refusal.place)));
-        if heard != sample.said || counts != sample.after {
+        if said != expected || counts != sample.after {
             return Some(format!(
-                "expected {:?} and {:?}, got {heard:?} and {counts:?}",
-                sample.said, sample.after
+                "expected {expected:?} and {:?}, got {said:?} and {counts:?}",
+                sample.after
             ));
         }
     }
@@ -480,6 +491,9 @@ fn compare_some(pool: &Pool, mut random: Random, times: u64) -> Tally {
     for _ in 0..WRITES * times {
         compare_write(&mut tally, pool, &mut random);
     }
+    for _ in 0..GROUPS * times {
+        compare_pairs(&mut tally, pool, &mut random);
+    }
     tally
 }
 
@@ -576,6 +590,20 @@ fn compare_list(tally: &mut Tally, pool: &Pool, random: &mut Random) {
             tally.fixed.count_call(parsed, &counts, call, &native);
         }
     }
+}
+
+/// The numbers of pairs of all rules, for one group.
+fn compare_pairs(tally: &mut Tally, pool: &Pool, random: &mut Random) {
+    let docket = pool.draw(random);
+    let counts = pairs::random_counts(docket, random);
+    if let Some(difference) = pairs::difference(&native::say, docket, &counts) {
+        tally.differ(&docket.bytes(), difference);
+    }
+    if let Some(law) = pairs::broken_law(&native::say, docket, &counts) {
+        tally.break_law(&docket.bytes(), format!("{counts:?}: not so that {law}"));
+    }
+    let numbers = pairs::numbers(&native::say, docket, &counts);
+    tally.pairs.count(docket, &counts, &numbers);
 }
 
 /// Makes a call in version 2 too, which in version 1 says this and leaves these counts. Hands back whether it says and

@@ -2,11 +2,13 @@
 
 mod fixed;
 mod order;
+mod pairs;
 mod writes;
 
 use crate::calls::{is_of_tests_1_to_8, Call, Said};
 use fixed::Fixed;
 use order::Order;
+pub use pairs::Pairs;
 use second::Refusal;
 use std::collections::{BTreeMap, BTreeSet};
 use std::fmt::Debug;
@@ -38,6 +40,7 @@ pub struct Tally {
     pub outcome_runs: u64,
     pub fixed: Fixed,
     pub order: Order,
+    pub pairs: Pairs,
     pub writes: Writes,
     /// What was said to the inputs on which the two implementations differ.
     pub differences: Vec<String>,
@@ -102,7 +105,11 @@ impl Tally {
     }
 
     pub fn differ(&mut self, docket: &[u8], what: String) {
-        self.differences.push(format!("docket {}\n  {what}", hex(docket)));
+        self.differences.push(of_docket(docket, &what));
+    }
+
+    pub fn break_law(&mut self, docket: &[u8], what: String) {
+        self.pairs.broken.push(of_docket(docket, &what));
     }
 
     pub fn merge(&mut self, other: Tally) {
@@ -124,13 +131,14 @@ impl Tally {
         self.outcome_runs += other.outcome_runs;
         self.fixed.merge(other.fixed);
         self.order.merge(other.order);
+        self.pairs.merge(other.pairs);
         self.writes.merge(other.writes);
         self.differences.extend(other.differences);
     }
 
     /// What the inputs failed to reach: several places with every refusal that has them, some last places, every kind of
     /// node and some moduli, half of the dockets past tests 1 to 8, a tenth of them accepted, tables in which a pair has
-    /// several rules, version 2, rules out of order, and what the writer can say.
+    /// several rules, version 2, rules out of order, numbers of pairs, and what the writer can say.
     pub fn not_reached(&self) -> Vec<String> {
         let mut missing = places_not_reached(&self.places, &LEAST_PLACES, &LAST_PLACES);
         if 2 * self.pass_shape < self.dockets {
@@ -143,6 +151,7 @@ impl Tally {
         missing.extend(self.outcomes_not_reached());
         missing.extend(self.fixed.not_reached());
         missing.extend(self.order.not_reached());
+        missing.extend(self.pairs.not_reached());
         missing.extend(self.writes.not_reached());
         missing
     }
@@ -214,6 +223,11 @@ fn places_not_reached(places: &Places, least: &[(u32, usize)], last: &[(u32, u32
         }
     }
     missing
+}
+
+/// What is said of a docket, with its bytes.
+fn of_docket(docket: &[u8], what: &str) -> String {
+    format!("docket {}\n  {what}", hex(docket))
 }
 
 /// Bytes as two digits each.

@@ -44,11 +44,28 @@ fn fire(&[p, q, a, b, _]: &Rule, counts: &mut [u32]) {
     counts[usize::from(b)] += 1;
 }
 
+/// Test 23.
+fn numbered<'a>(docket: &Docket<'a>, rule: u32) -> Result<&'a Rule, Refusal> {
+    match docket.rules.get(rule as usize) {
+        Some(found) => Ok(found),
+        None => refuse(23, rule as usize),
+    }
+}
+
+/// Test 23, then how many pairs of workers could make the meeting.
+pub fn can_act(docket: &Docket, counts: &[u32], rule: u32) -> Result<u64, Refusal> {
+    let &[p, q, ..] = numbered(docket, rule)?;
+    let [in_p, in_q] = [p, q].map(|state| u64::from(counts[usize::from(state)]));
+    Ok(if p == q {
+        in_p * in_p.saturating_sub(1) / 2
+    } else {
+        in_p * in_q
+    })
+}
+
 /// Tests 23 and 24, then the meeting.
 pub fn step(docket: &Docket, counts: &mut [u32], rule: u32) -> Result<(), Refusal> {
-    let Some(found) = docket.rules.get(rule as usize) else {
-        return refuse(23, rule as usize);
-    };
+    let found = numbered(docket, rule)?;
     if !enabled(found, counts) {
         return refuse(24, rule as usize);
     }

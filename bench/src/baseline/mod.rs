@@ -54,6 +54,13 @@ pub fn start_code(docket: &[u8], counts: &[u32]) -> u64 {
     }))
 }
 
+/// How many pairs of workers could make the meeting of a rule.
+pub fn can_act(docket: &[u8], counts: &[u32], rule: u32) -> Result<u64, Refusal> {
+    let docket = Docket::read(docket)?;
+    machine::size_test(&docket, counts)?;
+    machine::can_act(&docket, counts, rule)
+}
+
 /// What `docket_step` returns.
 pub fn step_code(docket: &[u8], counts: &mut [u32], rule: u32) -> u64 {
     call_code(Docket::read(docket).and_then(|docket| {

@@ -6,10 +6,11 @@ ghost use Rattle.theory.specs.Machine.{step as stepCall, run as runCall};
 ghost use Rattle.format.specs.Format.{sections};
 ghost use Rattle.checker.specs.Check.{checkOf};
 ghost use Rattle.writer.specs.Write.{writeOf, outputOf};
-ghost use Rattle.machine.specs.Calls.{startOf, enabledOf, terminalOf, verdictOf, replyOf, countsOf};
-ghost use Rattle.codes.specs.Codes.{checkCode, checkFigures, writeCode, writeTotal, startCode, yesNoCode, yesNoValue};
-ghost use Rattle.codes.specs.Codes.{verdictCode, verdictValue, replyCode, replySteps, replyRests};
+ghost use Rattle.machine.specs.Calls.{startOf, pairsOf, terminalOf, verdictOf, replyOf, countsOf};
+ghost use Rattle.codes.specs.Codes.{checkCode, checkFigures, writeCode, writeTotal, startCode};
+ghost use Rattle.codes.specs.Codes.{pairsCode, pairsValue, yesNoCode, yesNoValue, verdictCode, verdictValue, replyCode, replySteps, replyRests};
 use checker::Checked;
+use machine::Pairs;
 use machine::Ran;
 use machine::Verdict;
 use machine::YesNo;
@@ -83,19 +84,19 @@ pub extern "C" fn docket_start_test(docket: &[u8], counts: &[u32]) -> u64
     codes::start_code(machine::start_test(docket, counts))
 }
 
-// Whether the rule can act: answer is 1 for yes, 0 for no, and as it was after a refusal.
+// How many pairs of workers could make the rule's meeting: answer is the number, 0 where the rule cannot act.
 #[no_mangle]
 pub extern "C" fn docket_can_act(docket: &[u8], counts: &[u32], rule: u32, answer: &mut u64) -> u64
-    ensures code { λ r. ⌜ r ≡ yesNoCode (enabledOf (now (docket .entry)) (now (counts .entry)) rule) ⌝ }
-    ensures answer { λ _. ⌜ now (answer .exit) ≡ yesNoValue (now (answer .entry)) (enabledOf (now (docket .entry)) (now (counts .entry)) rule) ⌝ }
+    ensures code { λ r. ⌜ r ≡ pairsCode (pairsOf (now (docket .entry)) (now (counts .entry)) rule) ⌝ }
+    ensures answer { λ _. ⌜ now (answer .exit) ≡ pairsValue (now (answer .entry)) (pairsOf (now (docket .entry)) (now (counts .entry)) rule) ⌝ }
 {
     let a = machine::can_act(docket, counts, rule);
     match a {
-        YesNo::Is(acts) => {
-            *answer = codes::as_number(acts);
+        Pairs::Number(n) => {
+            *answer = n;
             0
         }
-        YesNo::Refused(r) => codes::call_refusal(r),
+        Pairs::Refused(r) => codes::call_refusal(r),
     }
 }
 

@@ -1,11 +1,13 @@
 -- What is proved: begin here. Statements only. The record Claims has one field for each subject; the statements of a subject
 -- stand in a file of its own, those about dockets in OfDocket.antt, those about the writer in OfWriter.antt, those about the
--- order of rules in OfOrder.antt, those about versions in OfVersions.antt, and the proofs in the folder beside each file.
+-- order of rules in OfOrder.antt, those about the number of pairs in OfPairs.antt, those about versions in OfVersions.antt, and
+-- the proofs in the folder beside each file.
 use mathlib.Core.List.{List}
 use Prim.Native.Nat.{ℕ}
 use Rattle.claims.specs.OfDocket.{OfDocket}
 use Rattle.claims.specs.OfWriter.{OfWriter}
 use Rattle.claims.specs.OfOrder.{OfOrder}
+use Rattle.claims.specs.OfPairs.{OfPairs}
 use Rattle.claims.specs.OfVersions.{OfVersions}
 pub mod Proved
 
@@ -17,5 +19,7 @@ pub record Claims : Type 0 where
   pub of-writer : OfWriter
   -- Of the order of rules, in which every docket of version 2 that passes tests 1 to 8 has them.
   pub of-order : OfOrder
+  -- Of the number of pairs that the can-act call answers.
+  pub of-pairs : OfPairs
   -- Of dockets of version 1 and the same in version 2.
   pub of-versions : OfVersions

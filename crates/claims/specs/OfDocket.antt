@@ -13,6 +13,7 @@ use lib.IntN.{ℤ, pos, _-ℤ_}
 use lib.Signed.{_≤ℤ_}
 use Rattle.theory.specs.Judge.{Test, Passes, FirstFits}
 use Rattle.theory.specs.Protocol.{Protocol, enabled, terminal, Shows, StartRule, Start, Unfixed, fires, after, meetings}
+use Rattle.theory.specs.Pairs.{pairs}
 use Rattle.theory.specs.Ladder.{Layers, handover, Broken, layered, Laddered}
 use Rattle.theory.specs.Facts.{Facts}
 use Rattle.theory.specs.Leaf.{leafCloses, signed, LeafRule}
@@ -30,11 +31,12 @@ use Rattle.shape.specs.declared.Shape.the-variants as shape
 use Rattle.checker.specs.Check.{certificateTests, summaryOf, checkOf}
 use Rattle.checker.specs.declared.Summary.{Summary}
 use Rattle.checker.specs.declared.Checked.the-variants.{Accepted, Refused}
-use Rattle.machine.specs.Calls.{startOf, enabledOf, terminalOf, verdictOf, replyOf, countsOf}
+use Rattle.machine.specs.Calls.{startOf, pairsOf, terminalOf, verdictOf, replyOf, countsOf}
 use Rattle.machine.specs.declared.Started.the-variants as started
+use Rattle.machine.specs.declared.Pairs.the-variants as paired
 use Rattle.machine.specs.declared.YesNo.the-variants as answer
 use Rattle.machine.specs.declared.Verdict.the-variants as shown
-use Rattle.codes.specs.Codes.{code, callCode, checkCode, startCode, yesNoCode, verdictCode, replyCode}
+use Rattle.codes.specs.Codes.{code, callCode, checkCode, startCode, pairsCode, yesNoCode, verdictCode, replyCode}
 pub mod Numbers
 pub mod Says
 pub mod Codes
@@ -46,7 +48,7 @@ pub mod Refusals
 pub mod Proved
 
 -- ---- Demand 1: what every call says, for every file, counts and number. The contracts of the code say that each call answers
--- by the definition named here: startOf, enabledOf, terminalOf, verdictOf, replyOf, countsOf, checkOf.
+-- by the definition named here: startOf, pairsOf, terminalOf, verdictOf, replyOf, countsOf, checkOf.
 
 module _ (b c : List ℕ) where
   -- How every machine call answers: a is its answer, refuse r the answer that refuses by r. A refusal of tests 1 to 8 is passed
@@ -76,10 +78,10 @@ module _ (b c : List ℕ) where
     pub start : CallSays (startOf b c) started.Refused (λ P.
         ((startOf b c ≡ started.Start) ↔ Start P c)
         × ((s : ℕ) → (startOf b c ≡ started.Refused (refusal 22 s)) ↔ LowestUnfit P s))
-    -- Can rule r act: as defined, or 23 at the number given.
-    pub can-act : (r : ℕ) → CallSays (enabledOf b c r) answer.Refused (λ P.
-        (r < P .rules → enabledOf b c r ≡ answer.Is (enabled P c r))
-        × (P .rules ≤ r → enabledOf b c r ≡ answer.Refused (refusal 23 r)))
+    -- The number of pairs of workers that could make the meeting of rule r (OfPairs says more of it), or 23 at the number given.
+    pub can-act : (r : ℕ) → CallSays (pairsOf b c r) paired.Refused (λ P.
+        (r < P .rules → pairsOf b c r ≡ paired.Number (pairs P c r))
+        × (P .rules ≤ r → pairsOf b c r ≡ paired.Refused (refusal 23 r)))
     pub standstill : CallSays (terminalOf b c) answer.Refused (λ P. terminalOf b c ≡ answer.Is (terminal P c))
     -- The verdict v just where all occupied states have it, else mixed.
     pub verdict : CallSays (verdictOf b c) shown.Refused (λ P.
@@ -219,7 +221,7 @@ module _ (b : List ℕ) (h : Header) (c : List ℕ) where
 pub record CodesTell (b c : List ℕ) : Type 0 where
   pub check : (checkCode (checkOf b) ≡ 0) ↔ IsAccepted b
   pub start : (startCode (startOf b c) ≡ 0) ↔ (startOf b c ≡ started.Start)
-  pub can-act : (r : ℕ) → (yesNoCode (enabledOf b c r) ≡ 0) ↔ ((t : Bool) × (enabledOf b c r ≡ answer.Is t))
+  pub can-act : (r : ℕ) → (pairsCode (pairsOf b c r) ≡ 0) ↔ ((n : ℕ) × (pairsOf b c r ≡ paired.Number n))
   pub standstill : (yesNoCode (terminalOf b c) ≡ 0) ↔ ((t : Bool) × (terminalOf b c ≡ answer.Is t))
   pub verdict : (verdictCode (verdictOf b c) ≡ 0) ↔ ((r : Refusal) → verdictOf b c ≡ shown.Refused r → ⊥)
   pub of-call : (x : Call) → (replyCode (replyOf b c x) ≡ 0) ↔ ((n k : ℕ) → replyOf b c x ≡ refused n k → ⊥)
@@ -229,7 +231,7 @@ pub record CodesTell (b c : List ℕ) : Type 0 where
   -- The place of a refusal of another call is below 65,536 too, or it is the number that the call was given, which in C has 32
   -- bits.
   pub start-place : (n k : ℕ) → startOf b c ≡ started.Refused (refusal n k) → k < 65536
-  pub can-act-place : (r n k : ℕ) → enabledOf b c r ≡ answer.Refused (refusal n k) → (k < 65536) ⊎ (k ≡ r)
+  pub can-act-place : (r n k : ℕ) → pairsOf b c r ≡ paired.Refused (refusal n k) → (k < 65536) ⊎ (k ≡ r)
   pub standstill-place : (n k : ℕ) → terminalOf b c ≡ answer.Refused (refusal n k) → k < 65536
   pub verdict-place : (n k : ℕ) → verdictOf b c ≡ shown.Refused (refusal n k) → k < 65536
   pub call-place : (x : Call) (n k : ℕ) → replyOf b c x ≡ refused n k → (k < 65536) ⊎ (x ≡ step k)

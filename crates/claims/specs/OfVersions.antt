@@ -12,7 +12,7 @@ use Rattle.shape.specs.Shape.{refusal, shapeOf}
 use Rattle.shape.specs.Sound.{InOrder, SoundShape}
 use Rattle.shape.specs.declared.Shape.the-variants.{Refused}
 use Rattle.checker.specs.Check.{checkOf}
-use Rattle.machine.specs.Calls.{startOf, enabledOf, terminalOf, verdictOf, replyOf, countsOf}
+use Rattle.machine.specs.Calls.{startOf, pairsOf, terminalOf, verdictOf, replyOf, countsOf}
 use Rattle.writer.specs.Write.{docketOf}
 use Rattle.claims.specs.OfOrder.{FirstNotAfter}
 pub mod Proved
@@ -30,7 +30,7 @@ inVersion2 b h = let x = sectionsOf b h in docketOf 2 (sections (widened (x .sta
 pub record Alike (b d : List ℕ) : Type 0 where
   pub check : checkOf d ≡ checkOf b
   pub start : (c : List ℕ) → startOf d c ≡ startOf b c
-  pub can-act : (c : List ℕ) (r : ℕ) → enabledOf d c r ≡ enabledOf b c r
+  pub can-act : (c : List ℕ) (r : ℕ) → pairsOf d c r ≡ pairsOf b c r
   pub standstill : (c : List ℕ) → terminalOf d c ≡ terminalOf b c
   pub verdict : (c : List ℕ) → verdictOf d c ≡ verdictOf b c
   pub of-call : (c : List ℕ) (x : Call) → (replyOf d c x ≡ replyOf b c x) × (countsOf d c x ≡ countsOf b c x)

@@ -9,10 +9,10 @@ use lib.ListN.{length, getD, take, drop, set, replicate}
 use Rattle.theory.specs.Below.{allBelow}
 use Rattle.theory.specs.Ladder.{spreads}
 use Rattle.theory.specs.Tree.{widest}
-use Rattle.theory.specs.Machine.{run, ran}
+use Rattle.theory.specs.Machine.{run, ran, admitted}
 use Rattle.shape.specs.Shape.{refusal}
 use Rattle.theory.specs.Unfold.{walking, calling}
-use Rattle.format.specs.Format.{headerOf, Sections, sectionsOf}
+use Rattle.format.specs.Format.{headerOf, Sections, sectionsOf, protocolIn}
 use Rattle.format.specs.declared.Header.{Header}
 use Rattle.format.specs.Samples.{broadcast, majority, twoOutcomes, parity, seeded, quorum}
 use Rattle.shape.specs.Samples.{shaping}
@@ -26,27 +26,31 @@ use Rattle.writer.specs.Write.Laws.{bytes-are}
 use Rattle.writer.specs.Samples.{writing, parts}
 use Rattle.writer.specs.declared.Written.{Written}
 use Rattle.writer.specs.declared.Written.the-variants as written
-use Rattle.machine.specs.Calls.{startAnswer, startOf, verdictAnswer, verdictOf, replyOf, countsOf}
+use Rattle.machine.specs.Calls.{startAnswer, startOf, pairsAnswer, pairsOf, verdictAnswer, verdictOf, replyOf, countsOf}
 use Rattle.machine.specs.declared.Started.{Started}
 use Rattle.machine.specs.declared.Started.the-variants as started
+use Rattle.machine.specs.declared.Pairs.{Pairs}
+use Rattle.machine.specs.declared.Pairs.the-variants as paired
 use Rattle.machine.specs.declared.Verdict.the-variants.{Agreed}
 use Rattle.claims.specs.OfDocket.{Rules, Demand3}
 use Rattle.claims.specs.OfWriter.{Readable, Wrote}
 use Rattle.claims.specs.OfVersions.{widened, inVersion2}
 use Rattle.claims.specs.OfOrder.{RulesAmong, SoundVersion2}
+use Rattle.claims.specs.OfPairs.{PairsTell}
 use Rattle.claims.specs.Claims.Proved.{claims}
 use Rattle.claims.specs.Dockets.OneLayer.{one-layer}
 use Rattle.claims.specs.Dockets.{cut, longer, exchanged, withoutAbsent, oneLayer, inputFixed}
 
 -- A sample: what the check says of a docket; what a run with the greatest limit does from given counts; what the check says
 -- whatever the weights; what the writer of a version says of sections, and what it leaves in the output; what the start test
--- says.
+-- says; what the can-act call says of a rule number.
 pub data Sample : Type 0 where
   says : List ℕ → Checked → Sample
   rests : List ℕ → List ℕ → ℕ → List ℕ → Bool → Sample
   refuses : (ℕ → ℕ → ℕ → ℕ → List ℕ) → ℕ → Sample
   writes : ℕ → Sections → List ℕ → Written → List ℕ → Sample
   starts : List ℕ → List ℕ → Started → Sample
+  meets : List ℕ → List ℕ → ℕ → Pairs → Sample
 
 abbrev pub Holds : Sample → Type 0
 -- The check of b answers a.
@@ -63,6 +67,8 @@ Holds (refuses b n) =
 Holds (writes v x out a d) = (writeOf v x (length out) ≡ a) × (outputOf v x out ≡ d)
 -- The start test on b of the counts c answers a.
 Holds (starts b c a) = startOf b c ≡ a
+-- The can-act call on b, of the counts c and rule number r, answers a.
+Holds (meets b c r a) = pairsOf b c r ≡ a
 
 abbrev pub AllHold : List Sample → Type 0
 AllHold [] = Unit {0}
@@ -155,9 +161,30 @@ rulesInOrder =
     ∷ writes 1 (parts anotherOrder) (replicate 139 170) (written.Total 138) (anotherOrder ++ 170 ∷ [])
     ∷ []
 
+-- Samples of document 02, Job 6. In parity, rule 0 meets O with O, rule 1 O with E, rule 3 O with e: four agents in O, one, none; the
+-- greatest number of one state, the greatest of two, and one whose lowest 32 bits are 0; then refusals. Rules 0 and 1 of the docket
+-- with two outcomes have the same before pair.
+abbrev pub pairsCounted : List Sample
+pairsCounted =
+    meets parity (4 ∷ 3 ∷ 0 ∷ 0 ∷ []) 0 (paired.Number 6)
+    ∷ meets parity (4 ∷ 3 ∷ 0 ∷ 0 ∷ []) 1 (paired.Number 12)
+    ∷ meets parity (4 ∷ 3 ∷ 0 ∷ 0 ∷ []) 3 (paired.Number 0)
+    ∷ meets parity (1 ∷ 1 ∷ 0 ∷ 0 ∷ []) 0 (paired.Number 0)
+    ∷ meets parity (0 ∷ 2 ∷ 0 ∷ 0 ∷ []) 0 (paired.Number 0)
+    ∷ meets parity (1000000 ∷ 0 ∷ 0 ∷ 0 ∷ []) 0 (paired.Number 499999500000)
+    ∷ meets parity (500000 ∷ 500000 ∷ 0 ∷ 0 ∷ []) 1 (paired.Number 250000000000)
+    ∷ meets parity (65536 ∷ 65536 ∷ 0 ∷ 0 ∷ []) 1 (paired.Number 4294967296)
+    ∷ meets parity (4 ∷ 3 ∷ 0 ∷ 0 ∷ []) 5 (paired.Refused (refusal 23 5))
+    ∷ meets parity (1000000 ∷ 1 ∷ 0 ∷ 0 ∷ []) 5 (paired.Refused (refusal 21 0))
+    ∷ meets parity (4 ∷ 3 ∷ 0 ∷ []) 5 (paired.Refused (refusal 20 0))
+    ∷ meets twoOutcomes (2 ∷ 3 ∷ 0 ∷ []) 0 (paired.Number 6)
+    ∷ meets twoOutcomes (2 ∷ 3 ∷ 0 ∷ []) 1 (paired.Number 6)
+    ∷ []
+
 -- The names that samples unfold.
 unfoldable sampling : ℕ
 unfolding writing shaping walking calling widened badLeaf sectionsCheck checkOf replyOf countsOf verdictOf verdictAnswer startOf startAnswer
+    pairsOf pairsAnswer
 sampling = 0
 
 pub samples-hold : AllHold samples
@@ -179,6 +206,10 @@ starts-hold = (refl, (refl, (refl, (refl, (refl, (refl, (refl, tt)))))))
 pub order-holds : AllHold rulesInOrder
 unfolding sampling
 order-holds = (refl, (refl, (refl, (refl, (refl, (refl, ((refl, refl), ((refl, refl), tt))))))))
+
+pub pairs-hold : AllHold pairsCounted
+unfolding sampling
+pairs-hold = (refl, (refl, (refl, (refl, (refl, (refl, (refl, (refl, (refl, (refl, (refl, (refl, (refl, tt)))))))))))))
 
 -- So demand 3 holds of a docket in which a pair has two outcomes: what it says of rest and verdict is not empty there.
 pub outcomes-settle : (c : List ℕ) → Demand3 twoOutcomes (headerOf twoOutcomes) c
@@ -227,3 +258,12 @@ seeded-sound =
 pub seeded-order : (d : List ℕ) (k : Header) → SoundVersion2 d k → RulesAmong d k seeded (headerOf seeded)
     → RulesAmong seeded (headerOf seeded) d k → sectionsOf d k .rules ≡ sectionsOf seeded (headerOf seeded) .rules
 seeded-order d k g = claims .of-order .one-order d seeded k (headerOf seeded) g seeded-sound
+
+-- What is said of the number of pairs holds of parity, on all counts that pass.
+parity-sound : SoundShape parity (headerOf parity)
+parity-sound =
+    let rules = claims .of-docket parity .demand-2 .exact .0 (_, requested-hold .1 .1 .0) .1 in
+    subst (SoundShape parity) (rules .shape .header) (rules .shape)
+
+pub parity-pairs : (c : List ℕ) → admitted (protocolIn parity (headerOf parity)) c ≡ true → PairsTell parity (headerOf parity) c
+parity-pairs = claims .of-pairs .tell parity (headerOf parity) parity-sound

@@ -11,6 +11,8 @@ use Rattle.writer.specs.declared.Written.{Written}
 use Rattle.writer.specs.declared.Written.the-variants as writing
 use Rattle.machine.specs.declared.Started.{Started}
 use Rattle.machine.specs.declared.Started.the-variants as started
+use Rattle.machine.specs.declared.Pairs.{Pairs}
+use Rattle.machine.specs.declared.Pairs.the-variants as paired
 use Rattle.machine.specs.declared.YesNo.{YesNo}
 use Rattle.machine.specs.declared.YesNo.the-variants as yesNo
 use Rattle.machine.specs.declared.Verdict.{Verdict}
@@ -44,6 +46,10 @@ abbrev pub startCode : Started → ℕ
 startCode started.Start = 0
 startCode (started.Refused r) = callCode r
 
+abbrev pub pairsCode : Pairs → ℕ
+pairsCode (paired.Number n) = 0
+pairsCode (paired.Refused r) = callCode r
+
 abbrev pub yesNoCode : YesNo → ℕ
 yesNoCode (yesNo.Is t) = 0
 yesNoCode (yesNo.Refused r) = callCode r
@@ -70,6 +76,11 @@ checkFigures old (checked.Refused r) = old
 abbrev pub writeTotal : ℕ → Written → ℕ
 writeTotal old (writing.Total n) = n
 writeTotal old (writing.Refused r) = old
+
+-- The number of pairs.
+abbrev pub pairsValue : ℕ → Pairs → ℕ
+pairsValue old (paired.Number n) = n
+pairsValue old (paired.Refused r) = old
 
 -- 1 for yes, 0 for no.
 abbrev pub yesNoValue : ℕ → YesNo → ℕ

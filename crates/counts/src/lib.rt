@@ -1,6 +1,6 @@
 // The counts of a configuration, one 32-bit number a state, lent as a slice: tests 20 and 21, occupied and unfit states,
-// rules that are enabled, fire, or are chosen. Where a contract speaks of the docket's protocol the states section is lent;
-// only for unfit states it is read.
+// pairs of agents that could meet, rules that are enabled, fire, or are chosen. Where a contract speaks of the docket's
+// protocol the states section is lent; only for unfit states it is read.
 ghost use mathlib.Core.Path.{_≡_};
 ghost use mathlib.Core.List.{[]};
 ghost use Prim.Native.Nat.{_≤_};
@@ -8,10 +8,11 @@ ghost use lib.ListN.{getD};
 ghost use Rattle.theory.specs.Bool.{member};
 ghost use Rattle.theory.specs.Below.{sumBelow};
 ghost use Rattle.theory.specs.Protocol.{size, lose as loseOf, gain as gainOf, enabled as enabledOf, fire as fireOf, unfit};
+ghost use Rattle.theory.specs.Pairs.{pairsBetween, pairs as pairsOf};
 ghost use Rattle.theory.specs.Machine.{chosen};
 ghost use Rattle.bits.specs.Code.{amongOf};
 ghost use Rattle.format.specs.Format.{protocolOf, layersOf};
-ghost use Rattle.counts.specs.Code.{countsFault, pairEnabled, isOccupied, Most};
+ghost use Rattle.counts.specs.Code.{countsFault, partnersOf, pairEnabled, isOccupied, Most};
 use format::Sizes;
 
 // The count of state s, 0 past the end.
@@ -56,27 +57,55 @@ pub fn counts_fault(counts: &[u32], z: Sizes) -> u32
     0
 }
 
-// Whether p and q each hold an agent, or, where p = q, at least two.
-fn pair_enabled(counts: &[u32], p: usize, q: usize) -> bool
-    ensures { λ t. ⌜ t ≡ pairEnabled (now (counts .entry)) p q ⌝ }
+// How many agents in q an agent in p could meet: all, or, where p = q, all but itself. 0 where no agent is in p.
+fn partners(counts: &[u32], p: usize, q: usize) -> u32
+    ensures { λ n. ⌜ n ≡ partnersOf (now (counts .entry)) p q ⌝ }
 {
     let held = count(counts, p);
     if held < 1 {
-        return false;
+        return 0;
     }
     let same = p == q;
     if same {
-        return 1 < held;
+        return held - 1;
     }
-    0 < count(counts, q)
+    count(counts, q)
 }
 
-// Whether rule r is enabled.
+// The number of pairs of agents, one in p and the other in q: each agent in p with each of its partners, and half of that where
+// p = q, as each pair is then met twice. It cannot wrap.
+fn pairs_between(counts: &[u32], p: usize, q: usize) -> u64
+    ensures { λ n. ⌜ n ≡ pairsBetween (now (counts .entry)) p q ⌝ }
+{
+    let met = (count(counts, p) as u64) * (partners(counts, p, q) as u64);
+    let same = p == q;
+    if same {
+        return met / 2;
+    }
+    met
+}
+
+// Whether p and q each hold an agent, or, where p = q, at least two: whether the number of pairs is not 0 (`enabled-pairs` of theory).
+// That is just where an agent in p has a partner, so a run, which asks it of many rules, makes no product.
+fn pair_enabled(counts: &[u32], p: usize, q: usize) -> bool
+    ensures { λ t. ⌜ t ≡ pairEnabled (now (counts .entry)) p q ⌝ }
+{
+    0 < partners(counts, p, q)
+}
+
+// The number of pairs of agents that could make the meeting of rule r.
+pub fn pairs(states: &[u8], rules: &[u8], z: Sizes, counts: &[u32], r: u16) -> u64
+    ensures { λ n. ⌜ n ≡ pairsOf (protocolOf z (now (states .entry)) (now (rules .entry))) (now (counts .entry)) r ⌝ }
+{
+    let t = format::read_rule(rules, r);
+    pairs_between(counts, t.p, t.q)
+}
+
+// Whether rule r is enabled: whether the number of pairs is not 0.
 pub fn enabled(states: &[u8], rules: &[u8], z: Sizes, counts: &[u32], r: u16) -> bool
     ensures { λ t. ⌜ t ≡ enabledOf (protocolOf z (now (states .entry)) (now (rules .entry))) (now (counts .entry)) r ⌝ }
 {
-    let t = format::read_rule(rules, r);
-    pair_enabled(counts, t.p, t.q)
+    0 < pairs(states, rules, z, counts, r)
 }
 
 // One agent of state s less, where there is one.

@@ -5,12 +5,15 @@ use mathlib.Core.List.{List}
 use Prim.Native.Nat.{ℕ}
 use lib.Dec.{ltb}
 use Rattle.theory.specs.Protocol as theory
-use Rattle.theory.specs.Protocol.{Protocol, enabled, terminal, outputOf, startTest}
+use Rattle.theory.specs.Protocol.{Protocol, terminal, outputOf, startTest}
+use Rattle.theory.specs.Pairs.{pairs}
 use Rattle.theory.specs.Machine.{Call, Reply, refused, admit, reply, countsAfter}
 use Rattle.format.specs.Format.{protocolIn, layersIn}
 use Rattle.shape.specs.Shape.{refusal, shapeOf, byShape}
 use Rattle.machine.specs.declared.Started.{Started}
 use Rattle.machine.specs.declared.Started.the-variants as started
+use Rattle.machine.specs.declared.Pairs.{Pairs}
+use Rattle.machine.specs.declared.Pairs.the-variants as paired
 use Rattle.machine.specs.declared.YesNo.{YesNo}
 use Rattle.machine.specs.declared.YesNo.the-variants as yesNo
 use Rattle.machine.specs.declared.Verdict.{Verdict}
@@ -30,10 +33,11 @@ module _ (P : Protocol) (c : List ℕ) where
       admit P c (λ n. started.Refused (refusal n 0))
       (cond (ltb (startTest P c) (P .states)) (started.Refused (refusal 22 (startTest P c))) started.Start)
 
-  -- Whether rule number r can act: 23 where it names no rule.
-  unfoldable pub enabledAnswer : ℕ → YesNo
-  enabledAnswer r =
-      admit P c (λ n. yesNo.Refused (refusal n 0)) (cond (ltb r (P .rules)) (yesNo.Is (enabled P c r)) (yesNo.Refused (refusal 23 r)))
+  -- The number of pairs of workers that could make the meeting of rule number r, 0 where it cannot act (document 02, Job 6): 23 where
+  -- r names no rule.
+  unfoldable pub pairsAnswer : ℕ → Pairs
+  pairsAnswer r =
+      admit P c (λ n. paired.Refused (refusal n 0)) (cond (ltb r (P .rules)) (paired.Number (pairs P c r)) (paired.Refused (refusal 23 r)))
 
   -- Whether the counts are a standstill.
   unfoldable pub terminalAnswer : YesNo
@@ -49,8 +53,8 @@ module _ (b c : List ℕ) where
   unfoldable pub startOf : Started
   startOf = byShape started.Refused (λ h. startAnswer (protocolIn b h) c) (shapeOf b)
 
-  unfoldable pub enabledOf : ℕ → YesNo
-  enabledOf r = byShape yesNo.Refused (λ h. enabledAnswer (protocolIn b h) c r) (shapeOf b)
+  unfoldable pub pairsOf : ℕ → Pairs
+  pairsOf r = byShape paired.Refused (λ h. pairsAnswer (protocolIn b h) c r) (shapeOf b)
 
   unfoldable pub terminalOf : YesNo
   terminalOf = byShape yesNo.Refused (λ h. terminalAnswer (protocolIn b h) c) (shapeOf b)

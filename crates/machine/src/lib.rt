@@ -10,7 +10,7 @@ ghost use Rattle.theory.specs.Ladder.{OrderedPartition};
 ghost use Rattle.theory.specs.Machine.{admitted, step as stepCall, run as runCall};
 ghost use Rattle.format.specs.Format.{protocolOf, layersOf, protocolIn, layersIn};
 ghost use Rattle.shape.specs.Sound.{SoundShape};
-ghost use Rattle.machine.specs.Calls.{startAnswer, enabledAnswer, terminalAnswer, verdictAnswer, startOf, enabledOf, terminalOf, verdictOf};
+ghost use Rattle.machine.specs.Calls.{startAnswer, pairsAnswer, terminalAnswer, verdictAnswer, startOf, pairsOf, terminalOf, verdictOf};
 ghost use Rattle.machine.specs.Code.{replyOfStep, replyOfRun, Replies, RepliesOn};
 use format::Flag;
 use format::Header;
@@ -21,6 +21,12 @@ use shape::Shape;
 // What the start test finds.
 pub enum Started {
     Start,
+    Refused(Refusal),
+}
+
+// How many pairs of workers could make a rule's meeting.
+pub enum Pairs {
+    Number(u64),
     Refused(Refusal),
 }
 
@@ -78,34 +84,34 @@ pub fn start_test(docket: &[u8], counts: &[u32]) -> Started
     start_in(docket, h, counts)
 }
 
-// Whether rule number r can act, of a docket that passes tests 1 to 8.
-fn can_act_in(docket: &[u8], h: Header, counts: &[u32], r: u32) -> YesNo
+// How many pairs of workers could make the meeting of rule number r, of a docket that passes tests 1 to 8.
+fn can_act_in(docket: &[u8], h: Header, counts: &[u32], r: u32) -> Pairs
     requires { ⌜ SoundShape (now docket) h ⌝ }
-    ensures { λ a. ⌜ a ≡ enabledAnswer (protocolIn (now (docket .entry)) h) (now (counts .entry)) r ⌝ }
+    ensures { λ a. ⌜ a ≡ pairsAnswer (protocolIn (now (docket .entry)) h) (now (counts .entry)) r ⌝ }
 {
     let number = counts::counts_fault(counts, h.sizes);
     let refused = number != 0;
     if refused {
-        return YesNo::Refused(Refusal { number, place: 0 });
+        return Pairs::Refused(Refusal { number, place: 0 });
     }
     if r < (h.sizes.rules as u32) {
         let states = format::states_section(docket, h);
         let rules = format::rules_section(docket, h);
-        return YesNo::Is(counts::enabled(states, rules, h.sizes, counts, r as u16));
+        return Pairs::Number(counts::pairs(states, rules, h.sizes, counts, r as u16));
     }
-    YesNo::Refused(Refusal {
+    Pairs::Refused(Refusal {
         number: 23,
         place: r,
     })
 }
 
-// Whether rule number r can act.
-pub fn can_act(docket: &[u8], counts: &[u32], r: u32) -> YesNo
-    ensures { λ a. ⌜ a ≡ enabledOf (now (docket .entry)) (now (counts .entry)) r ⌝ }
+// How many pairs of workers could make the meeting of rule number r, 0 where it cannot act.
+pub fn can_act(docket: &[u8], counts: &[u32], r: u32) -> Pairs
+    ensures { λ a. ⌜ a ≡ pairsOf (now (docket .entry)) (now (counts .entry)) r ⌝ }
 {
     let shape = shape::read_shape(docket);
     let Shape::Sound(h) = shape else {
-        return YesNo::Refused(shape::refusal_of(shape));
+        return Pairs::Refused(shape::refusal_of(shape));
     };
     can_act_in(docket, h, counts, r)
 }

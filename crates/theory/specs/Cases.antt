@@ -2,6 +2,7 @@
 -- Witnesses.
 pub mod Order
 pub mod Protocol
+pub mod Pairs
 pub mod Ladder
 pub mod Tree
 pub mod Remainder

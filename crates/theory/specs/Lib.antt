@@ -6,6 +6,7 @@ pub mod Order
 pub mod Judge
 pub mod Weigh
 pub mod Protocol
+pub mod Pairs
 pub mod Ladder
 pub mod Facts
 pub mod Leaf

@@ -6,6 +6,7 @@ use Rattle.theory.specs.Below.{allBelow, anyBelow, firstBelow, sumBelow,
 use Rattle.theory.specs.Judge.{judge}
 use Rattle.theory.specs.Weigh.{weigh}
 use Rattle.theory.specs.Protocol.{size, lose, gain, enabled, fire, terminal, shows, outputOf, unfit, startTest, fires, tried, after, meetings}
+use Rattle.theory.specs.Pairs.{pairsBetween, pairsAmong, rulesBetween}
 use Rattle.theory.specs.Ladder.{isLower, fits, handoverAt, handover, enabledIn, active, lowest, layered}
 use Rattle.theory.specs.Ladder.{spread, lowersAt, lowering, spreads, spreadsAbove, rankAt, rank}
 use Rattle.theory.specs.Facts.{extend, withAbsent, withPresent, withAtMostOne, withUnused, fresh}
@@ -24,7 +25,8 @@ bounds = 0
 
 -- Configurations, meetings and lists of rule numbers.
 unfoldable pub meeting : ℕ
-unfolding bounds size weigh lose gain enabled fire terminal shows outputOf unfit startTest fires tried after meetings
+unfolding bounds size weigh lose gain enabled fire terminal shows outputOf unfit startTest fires tried after meetings pairsBetween
+    pairsAmong rulesBetween
 meeting = 0
 
 -- The ladder.

@@ -1,6 +1,6 @@
 -- `capi::docket_can_act` meets its contract: the numbers are those of the call's answer.
 use borrow.Author.Needs.{needs}
-use Rattle.codes.specs.Codes.{yesNoCode, yesNoValue}
+use Rattle.codes.specs.Codes.{pairsCode, pairsValue}
 use Rattle.codes.specs.Codes.Laws.{told, told-at}
 use Rattle.capi.proofs.docket_can_act.Statement.{statement}
 use Rattle.capi.proofs.docket_can_act.Tie as tie
@@ -11,9 +11,6 @@ can-act-requires c κs = search needs
 enum-known-a : tie.Need-enum-known-a
 enum-known-a c = search needs
 
-as-number-requires : tie.Need-as-number-requires
-as-number-requires c κs = search needs
-
 enum-known-a-2 : tie.Need-enum-known-a-2
 enum-known-a-2 c = search needs
 
@@ -21,10 +18,10 @@ call-refusal-requires : tie.Need-call-refusal-requires
 call-refusal-requires c κs = search needs
 
 returns : tie.Need-returns
-returns c = (search (told yesNoCode, needs), search (told-at yesNoValue, needs))
+returns c = (search (told pairsCode, needs), search (told-at pairsValue, needs))
 
 returns-2 : tie.Need-returns-2
-returns-2 c = (search (told yesNoCode, needs), search (told-at yesNoValue, needs))
+returns-2 c = (search (told pairsCode, needs), search (told-at pairsValue, needs))
 
 pub docket-can-act-spec : {M : Type 1} → statement M
 docket-can-act-spec =
@@ -32,7 +29,6 @@ docket-can-act-spec =
     (tie.spec
     can-act-requires
     enum-known-a
-    as-number-requires
     enum-known-a-2
     call-refusal-requires
     returns

@@ -2,6 +2,7 @@
 use Rattle.claims.specs.OfDocket.Proved.{of-docket}
 use Rattle.claims.specs.OfWriter.Proved.{of-writer}
 use Rattle.claims.specs.OfOrder.Proved.{of-order}
+use Rattle.claims.specs.OfPairs.Proved.{of-pairs}
 use Rattle.claims.specs.OfVersions.Proved.{of-versions}
 use Rattle.claims.specs.Claims.{Claims}
 
@@ -10,5 +11,6 @@ claims = record {
   of-docket = of-docket;
   of-writer = of-writer;
   of-order = of-order;
+  of-pairs = of-pairs;
   of-versions = of-versions;
 }

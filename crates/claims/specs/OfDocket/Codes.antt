@@ -25,18 +25,21 @@ use Rattle.shape.specs.declared.Shape.the-variants as shape
 use Rattle.checker.specs.Check.{certificateTests, checkOf}
 use Rattle.checker.specs.declared.Checked.{Checked}
 use Rattle.checker.specs.declared.Checked.the-variants.{Accepted, Refused}
-use Rattle.machine.specs.Calls.{startAnswer, enabledAnswer, terminalAnswer, verdictAs, verdictAnswer}
-use Rattle.machine.specs.Calls.{startOf, enabledOf, terminalOf, verdictOf, replyOf}
+use Rattle.machine.specs.Calls.{startAnswer, pairsAnswer, terminalAnswer, verdictAs, verdictAnswer}
+use Rattle.machine.specs.Calls.{startOf, pairsOf, terminalOf, verdictOf, replyOf}
 use Rattle.machine.specs.declared.Started as starteds
 use Rattle.machine.specs.declared.Started.the-variants as started
+use Rattle.machine.specs.declared.Pairs as paireds
+use Rattle.machine.specs.declared.Pairs.the-variants as paired
 use Rattle.machine.specs.declared.YesNo as answers
 use Rattle.machine.specs.declared.YesNo.the-variants as answer
 use Rattle.machine.specs.declared.Verdict as verdicts
 use Rattle.machine.specs.declared.Verdict.the-variants as shown
-use Rattle.codes.specs.Codes.{checkCode, startCode, yesNoCode, verdictCode, replyCode}
+use Rattle.codes.specs.Codes.{checkCode, startCode, pairsCode, yesNoCode, verdictCode, replyCode}
 use Rattle.claims.specs.OfDocket.{passBack, CodesTell}
-use Rattle.claims.specs.OfDocket.Numbers.{isOneOf, checkNumbers, callNumbers, checkNumber, startNumber, answerNumber, verdictNumber, replyNumber}
-use Rattle.claims.specs.OfDocket.Numbers.{check-number, start-number, enabled-number, terminal-number, verdict-number, step-number, run-number}
+use Rattle.claims.specs.OfDocket.Numbers.{isOneOf, checkNumbers, callNumbers}
+use Rattle.claims.specs.OfDocket.Numbers.{checkNumber, startNumber, pairsNumber, answerNumber, verdictNumber, replyNumber}
+use Rattle.claims.specs.OfDocket.Numbers.{check-number, start-number, pairs-number, terminal-number, verdict-number, step-number, run-number}
 use Rattle.claims.specs.OfDocket.Numbers.{shape-refusal-is}
 use Rattle.claims.specs.OfDocket.Refusals.{refusal-is}
 
@@ -56,9 +59,15 @@ unfolding isOneOf
 start-zero started.Start p e = refl
 start-zero (started.Refused r) p e = absurd (not-zero (r .number) (callNumbers ++ 22 ∷ []) p refl (omega arith))
 
-yesNo-zero : (ns : List ℕ) → isOneOf 0 ns ≡ false → (a : answers.YesNo) → isOneOf (answerNumber a) ns ≡ true → yesNoCode a ≡ 0 → (t : Bool) × (a ≡ answer.Is t)
-yesNo-zero ns z (answer.Is t) p e = (t, refl)
-yesNo-zero ns z (answer.Refused r) p e = absurd (not-zero (r .number) ns p z (omega arith))
+pairs-zero : (a : paireds.Pairs) → isOneOf (pairsNumber a) (callNumbers ++ 23 ∷ []) ≡ true → pairsCode a ≡ 0 → (n : ℕ) × (a ≡ paired.Number n)
+unfolding isOneOf
+pairs-zero (paired.Number n) p e = (n, refl)
+pairs-zero (paired.Refused r) p e = absurd (not-zero (r .number) (callNumbers ++ 23 ∷ []) p refl (omega arith))
+
+yesNo-zero : (a : answers.YesNo) → isOneOf (answerNumber a) callNumbers ≡ true → yesNoCode a ≡ 0 → (t : Bool) × (a ≡ answer.Is t)
+unfolding isOneOf
+yesNo-zero (answer.Is t) p e = (t, refl)
+yesNo-zero (answer.Refused r) p e = absurd (not-zero (r .number) callNumbers p refl (omega arith))
 
 verdict-zero : (a : verdicts.Verdict) → isOneOf (verdictNumber a) callNumbers ≡ true → (verdictCode a ≡ 0) ↔ ((r : Refusal) → a ≡ shown.Refused r → ⊥)
 unfolding isOneOf
@@ -150,6 +159,10 @@ abbrev startPlace : starteds.Started → ℕ
 startPlace started.Start = 0
 startPlace (started.Refused r) = r .place
 
+abbrev pairsPlace : paireds.Pairs → ℕ
+pairsPlace (paired.Number n) = 0
+pairsPlace (paired.Refused r) = r .place
+
 abbrev answerPlace : answers.YesNo → ℕ
 answerPlace (answer.Is t) = 0
 answerPlace (answer.Refused r) = r .place
@@ -175,10 +188,10 @@ module _ (b c : List ℕ) where
       (λ e. rw e (omega (arith, ltb-true (startTest P c) (P .states) e, sound .limits .states-most)))
       (λ e. rw e (omega arith)))
 
-  can-act-place : (r : ℕ) → (answerPlace (enabledOf b c r) < 65536) ⊎ (answerPlace (enabledOf b c r) ≡ r)
-  unfolding enabledOf enabledAnswer
+  can-act-place : (r : ℕ) → (pairsPlace (pairsOf b c r) < 65536) ⊎ (pairsPlace (pairsOf b c r) ≡ r)
+  unfolding pairsOf pairsAnswer
   can-act-place r =
-      by-answer b c answer.Refused _ (λ a. (answerPlace a < 65536) ⊎ (answerPlace a ≡ r)) (λ q l. inl l)
+      by-answer b c paired.Refused _ (λ a. (pairsPlace a < 65536) ⊎ (pairsPlace a ≡ r)) (λ q l. inl l)
       (λ h sound. by-test (ltb r (h .sizes .rules)) (λ e. rw e (inl (omega arith))) (λ e. rw e (inr refl)))
 
   standstill-place : answerPlace (terminalOf b c) < 65536
@@ -227,14 +240,14 @@ unfolding isOneOf
 codes-tell b c = record {
   check = (check-zero (checkOf b) (check-number b), λ a. ap checkCode (a .1));
   start = (start-zero (startOf b c) (start-number b c), λ e. ap startCode e);
-  can-act = λ r. (yesNo-zero (callNumbers ++ 23 ∷ []) refl (enabledOf b c r) (enabled-number b c r), λ s. ap yesNoCode (s .1));
-  standstill = (yesNo-zero callNumbers refl (terminalOf b c) (terminal-number b c), λ s. ap yesNoCode (s .1));
+  can-act = λ r. (pairs-zero (pairsOf b c r) (pairs-number b c r), λ s. ap pairsCode (s .1));
+  standstill = (yesNo-zero (terminalOf b c) (terminal-number b c), λ s. ap yesNoCode (s .1));
   verdict = verdict-zero (verdictOf b c) (verdict-number b c);
   of-call = call-zero b c;
   check-place = check-place b;
   start-place = λ n k e. let is : startPlace (startOf b c) ≡ k = ap startPlace e in omega (arith, start-place b c);
   can-act-place = λ r n k e.
-      let is : answerPlace (enabledOf b c r) ≡ k = ap answerPlace e in
+      let is : pairsPlace (pairsOf b c r) ≡ k = ap pairsPlace e in
       ⊎-elim (λ l. inl (omega arith)) (λ q. inr (sym is ∙ q)) (can-act-place b c r);
   standstill-place = λ n k e. let is : answerPlace (terminalOf b c) ≡ k = ap answerPlace e in omega (arith, standstill-place b c);
   verdict-place = λ n k e. let is : verdictPlace (verdictOf b c) ≡ k = ap verdictPlace e in omega (arith, verdict-place b c);

@@ -67,6 +67,13 @@ calls-on b h sound c =
       refuse = λ off. on-bytes b h sound c (λ say last total. AllRefused c say last total (cond (isSized P c) 21 20) 0) (theorems P .calls-refused L c off);
     }
 
+-- The counts that calls leave pass 20 and 21 where the first ones do.
+pub still-admitted : (b : List ℕ) (h : Header) → SoundShape b h → (c : List ℕ) (xs : List Call) → admitted (protocolIn b h) c ≡ true
+    → admitted (protocolIn b h) (lastOn b c xs) ≡ true
+still-admitted b h sound c xs on =
+    let P = protocolIn b h in
+    ap (admitted P) (same-last b h sound c xs) ∙ admitted-last P (layersIn b h) (sound .sections .formed) c xs on
+
 -- From a start, the verdict call says one verdict after all lists of calls that end at a standstill.
 one-verdict : (b : List ℕ) (h : Header) (sound : SoundShape b h) → Consensus (protocolIn b h) → (c : List ℕ) → Start (protocolIn b h) c
     → admitted (protocolIn b h) c ≡ true
@@ -79,9 +86,8 @@ one-verdict b h sound one c start on =
       λ xs t.
           let d = lastOn b c xs in
           let to : d ≡ lastCounts P L c xs = same-last b h sound c xs in
-          let still : admitted P d ≡ true = ap (admitted P) to ∙ admitted-last P L (sound .sections .formed) c xs on in
           let reached : Reaches P c d = (numbersOf P L c xs, sym (to ∙ lastCounts-after P L c xs)) in
-          demand-1 b d .verdict .own h sound still .0 (v .0) .1 (v .1 d reached t),
+          demand-1 b d .verdict .own h sound (still-admitted b h sound c xs on) .0 (v .0) .1 (v .1 d reached t),
     )
 
 pub demand-3 : (b : List ℕ) (h : Header) → Rules b h → (c : List ℕ) → Demand3 b h c

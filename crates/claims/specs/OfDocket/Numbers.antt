@@ -14,6 +14,7 @@ use Rattle.theory.specs.Judge.Laws.{refused-by, fits-refuses}
 use Rattle.theory.specs.Protocol as protocol
 use Rattle.theory.specs.Protocol.{Protocol, enabled, terminal, outputOf, startTest, after}
 use Rattle.theory.specs.Protocol.Lists.{tried-not}
+use Rattle.theory.specs.Pairs.{pairs}
 use Rattle.theory.specs.Ladder.{Layers}
 use Rattle.theory.specs.Facts.{Facts, fresh}
 use Rattle.theory.specs.Tree as theory
@@ -32,10 +33,12 @@ use Rattle.checker.specs.Check.{certificateTests, walkOf, summaryOf, treeCheck,
 use Rattle.checker.specs.declared.Summary.{Summary}
 use Rattle.checker.specs.declared.Checked.{Checked}
 use Rattle.checker.specs.declared.Checked.the-variants.{Accepted, Refused}
-use Rattle.machine.specs.Calls.{startAnswer, enabledAnswer, terminalAnswer, verdictAs, verdictAnswer}
-use Rattle.machine.specs.Calls.{startOf, enabledOf, terminalOf, verdictOf, replyOf, countsOf}
+use Rattle.machine.specs.Calls.{startAnswer, pairsAnswer, terminalAnswer, verdictAs, verdictAnswer}
+use Rattle.machine.specs.Calls.{startOf, pairsOf, terminalOf, verdictOf, replyOf, countsOf}
 use Rattle.machine.specs.declared.Started as starteds
 use Rattle.machine.specs.declared.Started.the-variants as started
+use Rattle.machine.specs.declared.Pairs as paireds
+use Rattle.machine.specs.declared.Pairs.the-variants as paired
 use Rattle.machine.specs.declared.YesNo as answers
 use Rattle.machine.specs.declared.YesNo.the-variants as answer
 use Rattle.machine.specs.declared.Verdict as verdicts
@@ -72,6 +75,10 @@ checkNumber (Refused r) = r .number
 abbrev pub startNumber : starteds.Started → ℕ
 startNumber started.Start = 1
 startNumber (started.Refused r) = r .number
+
+abbrev pub pairsNumber : paireds.Pairs → ℕ
+pairsNumber (paired.Number n) = 1
+pairsNumber (paired.Refused r) = r .number
 
 abbrev pub answerNumber : answers.YesNo → ℕ
 answerNumber (answer.Is t) = 1
@@ -170,13 +177,13 @@ module _ (b c : List ℕ) where
       let P = protocolIn b h in
       either startNumber (ltb (startTest P c) (P .states)) (started.Refused (refusal 22 (startTest P c))) started.Start (callNumbers ++ 22 ∷ []) refl refl)
 
-  pub enabled-number : (r : ℕ) → isOneOf (answerNumber (enabledOf b c r)) (callNumbers ++ 23 ∷ []) ≡ true
-  unfolding enabledOf enabledAnswer isOneOf
-  enabled-number r =
-      call-number answerNumber answer.Refused _ (23 ∷ []) (λ r. refl)
+  pub pairs-number : (r : ℕ) → isOneOf (pairsNumber (pairsOf b c r)) (callNumbers ++ 23 ∷ []) ≡ true
+  unfolding pairsOf pairsAnswer isOneOf
+  pairs-number r =
+      call-number pairsNumber paired.Refused _ (23 ∷ []) (λ r. refl)
       (λ h.
       let P = protocolIn b h in
-      either answerNumber (ltb r (P .rules)) (answer.Is (enabled P c r)) (answer.Refused (refusal 23 r)) (callNumbers ++ 23 ∷ []) refl refl)
+      either pairsNumber (ltb r (P .rules)) (paired.Number (pairs P c r)) (paired.Refused (refusal 23 r)) (callNumbers ++ 23 ∷ []) refl refl)
 
   pub terminal-number : isOneOf (answerNumber (terminalOf b c)) callNumbers ≡ true
   unfolding terminalOf terminalAnswer isOneOf
@@ -277,9 +284,9 @@ check-number b = go (shapeOf b) (shape-number b)
 
 -- ---- A refused step or run leaves the counts
 
-ran-not-refused : {m n k : ℕ} {t : Bool} → ran m t ≡ refused n k → ⊥
+pub not-refused : (a : Reply) (n k : ℕ) → isRefused a ≡ false → a ≡ refused n k → ⊥
 unfolding isRefused
-ran-not-refused {m} {n} {k} {t} e = true≢false (sym (ap isRefused e))
+not-refused a n k off e = true≢false (sym (ap isRefused e) ∙ off)
 
 unchanged-on : (P : Protocol) (L : Layers) (c : List ℕ) (x : Call) (n k : ℕ) → reply P L c x ≡ refused n k → countsAfter P L c x ≡ c
 unfolding countsAfter after isRefused runReply
@@ -289,7 +296,7 @@ unchanged-on P L c x n k e = by-test (admitted P c) (on x e) (λ off. ap (after 
     on (step r) e a =
         ap (after P c) (adds-on P L c (step r) a)
         ∙ tried-not P c r (not-true _ (sym (step-refused P c r) ∙ ap isRefused (sym (reply-step P L c r a) ∙ e)))
-    on (run limit) e a = absurd (ran-not-refused (sym (reply-run P L c limit a) ∙ e))
+    on (run limit) e a = absurd (not-refused _ n k refl (sym (reply-run P L c limit a) ∙ e))
 
 pub unchanged : (b c : List ℕ) (x : Call) (n k : ℕ) → replyOf b c x ≡ refused n k → countsOf b c x ≡ c
 unfolding replyOf countsOf

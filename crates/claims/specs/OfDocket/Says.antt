@@ -1,6 +1,6 @@
 -- What every machine call says. Assumes nothing.
 use mathlib.Core.Path.{_≡_, refl, sym, ap, _∙_}
-use mathlib.Core.Bool.{Bool, true, false, not, cond}
+use mathlib.Core.Bool.{Bool, true, false, cond}
 use mathlib.Core.List.{List}
 use mathlib.Core.Logic.{_↔_}
 use Prim.Native.Nat.{ℕ, _≤_, _<_}
@@ -22,10 +22,11 @@ use Rattle.shape.specs.Sound.{SoundShape}
 use Rattle.shape.specs.Sound.Laws.{sound-shape, shape-sound}
 use Rattle.shape.specs.declared.Refusal.{Refusal}
 use Rattle.shape.specs.declared.Shape as shapes
-use Rattle.machine.specs.Calls.{startAnswer, enabledAnswer, terminalAnswer, verdictAs, verdictAnswer}
-use Rattle.machine.specs.Calls.{startOf, enabledOf, terminalOf, verdictOf, replyOf}
+use Rattle.machine.specs.Calls.{startAnswer, pairsAnswer, terminalAnswer, verdictAs, verdictAnswer}
+use Rattle.machine.specs.Calls.{startOf, pairsOf, terminalOf, verdictOf, replyOf}
 use Rattle.machine.specs.declared.Started as starteds
 use Rattle.machine.specs.declared.Started.the-variants as started
+use Rattle.machine.specs.declared.Pairs.the-variants as paired
 use Rattle.machine.specs.declared.YesNo.the-variants as answer
 use Rattle.machine.specs.declared.Verdict as verdicts
 use Rattle.machine.specs.declared.Verdict.the-variants as shown
@@ -67,9 +68,12 @@ abbrev placeIn : starteds.Started → ℕ
 placeIn started.Start = 0
 placeIn (started.Refused r) = r .place
 
-enough : (P : Protocol) (c : List ℕ) → admitted P c ≡ true → 2 ≤ size c
+-- Counts that pass have two agents to a million.
+pub admitted-within : (P : Protocol) (c : List ℕ) → admitted P c ≡ true → (2 ≤ size c) × (size c ≤ 1000000)
 unfolding admitted isWithin
-enough P c on = leb-true _ _ (and-elim (leb 2 (size c)) (leb (size c) 1000000) (and-elim (isSized P c) (isWithin c) on .1) .0)
+admitted-within P c on =
+    let s = and-elim (leb 2 (size c)) (leb (size c) 1000000) (and-elim (isSized P c) (isWithin c) on .1) in
+    (leb-true _ _ (s .0), leb-true _ _ (s .1))
 
 module _ (b c : List ℕ) (P : Protocol) (on : admitted P c ≡ true) where
   -- The start test is at the lowest unfit state, or past the states.
@@ -100,7 +104,7 @@ module _ (b c : List ℕ) (P : Protocol) (on : admitted P c ≡ true) where
     start-is : (a ≡ started.Start) ↔ Start P c
     unfolding startTest
     start-is =
-        let t = theorems P .start-exact c (admitted-sized P c on) (enough P c on) in (
+        let t = theorems P .start-exact c (admitted-sized P c on) (admitted-within P c on .0) in (
           λ q. t .0 (by-test (ltb (startTest P c) (P .states))
               (λ l. absurd (let z : _≡_ {A = ℕ} 22 0 = ap numberIn (sym (inside (ltb-true _ _ l)) ∙ q) in omega arith))
               (λ l. let m = ltb-false (startTest P c) (P .states) l in omega (arith, first-le (P .states) (unfit P c)))),
@@ -134,7 +138,7 @@ mixed-not-agreed false q = let z : _≡_ {A = ℕ} 2 0 = ap codeIn q in omega ar
 
 module _ (P : Protocol) (good : WellFormed P) (c : List ℕ) (on : admitted P c ≡ true) (a : verdicts.Verdict) (e : a ≡ verdictAs (outputOf P c)) where
   shows-is : (v : Bool) → (outputOf P c ≡ theory.agreed v) ↔ Shows P v c
-  shows-is = theorems P .as-published good c (admitted-sized P c on) .output-is (omega (arith, enough P c on))
+  shows-is = theorems P .as-published good c (admitted-sized P c on) .output-is (omega (arith, admitted-within P c on .0))
 
   agreed-same : (v w : Bool) → shown.Agreed v ≡ shown.Agreed w → v ≡ w
   agreed-same v w q = cc
@@ -162,7 +166,7 @@ module _ (P : Protocol) (good : WellFormed P) (c : List ℕ) (on : admitted P c 
 -- ---- Demand 1
 
 pub demand-1 : (b c : List ℕ) → Demand1 b c
-unfolding startOf startAnswer enabledOf enabledAnswer terminalOf terminalAnswer verdictOf verdictAnswer replyOf reply runReply
+unfolding startOf startAnswer pairsOf pairsAnswer terminalOf terminalAnswer verdictOf verdictAnswer replyOf reply runReply
 demand-1 b c = record {
   shape-sound-is = λ h. (sound-shape b h, shape-sound b h);
   shape-refusal-is = shape-refusal-is b;
@@ -170,7 +174,7 @@ demand-1 b c = record {
       call-says b c (startOf b c) started.Refused _ refl _
       (λ h sound on e. (start-is b c (protocolIn b h) on (startOf b c) e, unfit-is b c (protocolIn b h) on (startOf b c) e));
   can-act = λ r.
-      call-says b c (enabledOf b c r) answer.Refused _ refl _
+      call-says b c (pairsOf b c r) paired.Refused _ refl _
       (λ h sound on e. (λ l. e ∙ rw (lt-ltb r (h .sizes .rules) l), λ l. e ∙ rw (le-ltb r (h .sizes .rules) l)));
   standstill = call-says b c (terminalOf b c) answer.Refused _ refl _ (λ h sound on e. e);
   verdict = call-says b c (verdictOf b c) shown.Refused _ refl _

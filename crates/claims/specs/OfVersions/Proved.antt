@@ -27,8 +27,9 @@ use Rattle.shape.specs.declared.Shape.the-variants.{Refused}
 use Rattle.leaf.specs.Leaf.{badLeaf}
 use Rattle.checker.specs.Check.{sectionsCheck, checkOf}
 use Rattle.checker.specs.declared.Checked.the-variants as checked
-use Rattle.machine.specs.Calls.{startAnswer, enabledAnswer, terminalAnswer, verdictAnswer, startOf, enabledOf, terminalOf, verdictOf, replyOf, countsOf}
+use Rattle.machine.specs.Calls.{startAnswer, pairsAnswer, terminalAnswer, verdictAnswer, startOf, pairsOf, terminalOf, verdictOf, replyOf, countsOf}
 use Rattle.machine.specs.declared.Started.the-variants as started
+use Rattle.machine.specs.declared.Pairs.the-variants as paired
 use Rattle.machine.specs.declared.YesNo.the-variants as yesNo
 use Rattle.machine.specs.declared.Verdict.the-variants as shown
 use Rattle.writer.specs.Write.{records, sizesIn, WholeRecords, headerFor}
@@ -257,11 +258,11 @@ module _ (b : List ℕ) (h : Header) (g : SoundShape b h) (one : h .sizes .versi
     checks = rw (protocol-same z one (x .states) (x .rules))
 
     alike : Alike b d
-    unfolding checkOf startOf enabledOf terminalOf verdictOf replyOf countsOf
+    unfolding checkOf startOf pairsOf terminalOf verdictOf replyOf countsOf
     alike = record {
       check = same-by checked.Refused (λ c k. sectionsCheck (k .sizes) (sectionsOf c k)) (read-as sectionsCheck ∙ checks);
       start = λ c. same-by started.Refused (λ e k. startAnswer (protocolIn e k) c) (ap (λ P. startAnswer P c) protocols);
-      can-act = λ c r. same-by yesNo.Refused (λ e k. enabledAnswer (protocolIn e k) c r) (ap (λ P. enabledAnswer P c r) protocols);
+      can-act = λ c r. same-by paired.Refused (λ e k. pairsAnswer (protocolIn e k) c r) (ap (λ P. pairsAnswer P c r) protocols);
       standstill = λ c. same-by yesNo.Refused (λ e k. terminalAnswer (protocolIn e k) c) (ap (λ P. terminalAnswer P c) protocols);
       verdict = λ c. same-by shown.Refused (λ e k. verdictAnswer (protocolIn e k) c) (ap (λ P. verdictAnswer P c) protocols);
       of-call = λ c u. (

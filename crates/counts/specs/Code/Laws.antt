@@ -1,12 +1,12 @@
 -- Laws for the functions on counts and for their callers. Assumes nothing.
 use mathlib.Core.Path.{_≡_, refl, sym, ap, _∙_}
-use mathlib.Core.Bool.{Bool, true, false, not, cond, _&&_}
+use mathlib.Core.Bool.{Bool, true, false, not, cond}
 use mathlib.Core.List.{List, []}
 use mathlib.Core.Logic.{_⊎_, inl, inr, ⊎-elim, by-cases}
-use Prim.Native.Nat.{ℕ, _+_, _-_, _*_, _≤_, _<_}
+use Prim.Native.Nat.{ℕ, _+_, _-_, _*_, _/_, _≤_, _<_}
 use native.Mathlib.Decide.{decLt, ℕ-discrete}
 use native.Mathlib.Omega.{arith}
-use borrow.Author.Tests.{lt-ltb, le-ltb, le-leb, lt-leb, leb-true, eq-eqb, eqb-true, not-true, not-false}
+use borrow.Author.Tests.{ltb-true, ltb-false, lt-ltb, le-ltb, le-leb, lt-leb, leb-true, eq-eqb, eqb-true, not-true, not-false}
 use lib.Dec.{leb, ltb, eqb}
 use lib.ListN.{length, getD, set, List·getD-eq-default}
 use lib.Seq.{getD-set-same, getD-set-other, set-getD, set-out}
@@ -15,6 +15,8 @@ use Rattle.theory.specs.Below.{sumBelow, firstBelow}
 use Rattle.theory.specs.Below.Laws.{below-suc, sum-same, first-le, first-is}
 use Rattle.theory.specs.Weigh.Laws.{weigh-sum, weigh-at}
 use Rattle.theory.specs.Protocol.{Protocol, count, size, lose, gain, enabled, fire, unfit}
+use Rattle.theory.specs.Pairs.{pairsBetween, pairs}
+use Rattle.theory.specs.Pairs.Laws.{pairs-own, pairs-other, enabled-pairs}
 use Rattle.theory.specs.Ladder.{Layers, enabledIn, active, lowest}
 use Rattle.theory.specs.Ladder.Active.{enabledIn-elim, active-elim, active-intro}
 use Rattle.theory.specs.Machine.{isSized, isWithin, admitted, admit, chosen}
@@ -22,7 +24,7 @@ use Rattle.format.specs.Code.{Value}
 use Rattle.format.specs.Format.{fixedOf, isInput, ruleOf, protocolOf}
 use Rattle.format.specs.declared.Sizes.{Sizes}
 use Rattle.format.specs.declared.Rule.{Rule}
-use Rattle.counts.specs.Code.{countsFault, pairEnabled, Most}
+use Rattle.counts.specs.Code.{countsFault, partnersOf, pairEnabled, Most}
 
 -- ---- One count
 
@@ -134,28 +136,64 @@ fault-size n c e =
     (λ w. absurd (let q : 0 ≡ 21 = sym e ∙ rw (s, w) in omega arith)))
     (λ s. absurd (let q : 0 ≡ 20 = sym e ∙ rw s in omega arith))
 
--- ---- Enabled
+-- ---- Pairs and enabled
 
--- The three cases of a before pair, n being the count of p.
-module _ (c : List ℕ) (p q n : ℕ) (held : n ≡ getD c p 0) where
-  abbrev by-same : Bool → Bool
-  by-same t = elim t [ true ↦ ltb 1 (getD c p 0) | false ↦ ltb 0 (getD c p 0) && ltb 0 (getD c q 0) ]
+module _ (c : List ℕ) (p q : ℕ) where
+  partners-own : eqb p q ≡ true → partnersOf c p q ≡ count c p - 1
+  unfolding partnersOf
+  partners-own e = rw (e, partnersOf)
 
-  none : (t : Bool) → n < 1 → false ≡ by-same t
-  none true l = rw (← held, le-ltb 1 n (omega arith))
-  none false l = rw (← held, le-ltb 0 n (omega arith))
+  partners-other : eqb p q ≡ false → partnersOf c p q ≡ cond (ltb 0 (count c p)) (count c q) 0
+  unfolding partnersOf
+  partners-other e = rw (e, partnersOf)
 
-  pub pair-empty : n < 1 → false ≡ pairEnabled c p q
-  pair-empty = none (eqb p q)
+  -- The three cases of the partners, n being the count of p: no agent in p, one state, two states.
+  module _ (n : ℕ) (held : n ≡ count c p) where
+    pub no-partner : n < 1 → 0 ≡ partnersOf c p q
+    no-partner l =
+        let none : count c p ≡ 0 = omega arith in
+        by-test (eqb p q) (λ e. rw (partners-own e, none)) (λ e. rw (partners-other e, none))
 
-  pub pair-same : (t : Bool) → t ≡ eqb p q → t ≡ true → ltb 1 n ≡ pairEnabled c p q
-  pair-same t e d = ap (ltb 1) held ∙ ap by-same (sym d ∙ e)
+    pub partners-same : (t : Bool) → t ≡ eqb p q → t ≡ true → n - 1 ≡ partnersOf c p q
+    partners-same t e d = rw held (sym (partners-own (sym e ∙ d)))
 
-  both : (k : ℕ) → 1 ≤ n → k ≡ getD c q 0 → ltb 0 k ≡ by-same false
-  both k l h = rw (← held, lt-ltb 0 n l, ← h)
+    pub partners-apart : (t : Bool) (k : ℕ) → t ≡ eqb p q → t ≡ false → 1 ≤ n → k ≡ count c q → k ≡ partnersOf c p q
+    partners-apart t k e d l h = rw (partners-other (sym e ∙ d), lt-ltb 0 (count c p) (omega arith)) h
 
-  pub pair-other : (t : Bool) (k : ℕ) → t ≡ eqb p q → t ≡ false → 1 ≤ n → k ≡ getD c q 0 → ltb 0 k ≡ pairEnabled c p q
-  pair-other t k e d l h = both k l h ∙ ap by-same (sym d ∙ e)
+  -- The pairs, m being the count of p and n the number of partners: one state, two states.
+  module _ (m n : ℕ) (held : m ≡ count c p) (met : n ≡ partnersOf c p q) (t : Bool) (e : t ≡ eqb p q) where
+    pub pairs-same : t ≡ true → (m * n) / 2 ≡ pairsBetween c p q
+    pairs-same d = rw (held, met ∙ partners-own (sym e ∙ d)) (sym (pairs-own c p q (sym e ∙ d)))
+
+    pub pairs-apart : t ≡ false → m * n ≡ pairsBetween c p q
+    pairs-apart d =
+        rw (held, met ∙ partners-other (sym e ∙ d), pairs-other c p q (sym e ∙ d))
+        (by-test (ltb 0 (count c p))
+        (λ some. rw some)
+        (λ none. let zero : count c p ≡ 0 = omega (arith, ltb-false 0 (count c p) none) in rw zero (omega arith)))
+
+  -- A before pair is enabled just where an agent in p has a partner.
+  pub partner-some : (n : ℕ) → n ≡ partnersOf c p q → ltb 0 n ≡ pairEnabled c p q
+  partner-some n h =
+      by-test (eqb p q)
+      (λ e. rw (h ∙ partners-own e, e, pairEnabled) (but-one (count c p)))
+      (λ e. rw (h ∙ partners-other e, e, pairEnabled) (by-test (ltb 0 (count c p)) (λ some. rw some) (λ none. rw none)))
+    where
+      but-one : (k : ℕ) → ltb 0 (k - 1) ≡ ltb 1 k
+      but-one k =
+          by-test (ltb 1 k)
+          (λ l. lt-ltb 0 (k - 1) (omega (arith, ltb-true 1 k l)) ∙ sym l)
+          (λ l. le-ltb 0 (k - 1) (omega (arith, ltb-false 1 k l)) ∙ sym l)
+
+-- A rule has the pairs of its before pair.
+pub pairs-rule : (z : Sizes) (states rules c : List ℕ) (r : ℕ) (x : Rule) (n : ℕ)
+    → x ≡ ruleOf rules r → n ≡ pairsBetween c (x .p) (x .q) → n ≡ pairs (protocolOf z states rules) c r
+pairs-rule z states rules c r x n e h = h ∙ ap (λ (y : Rule). pairsBetween c (y .p) (y .q)) e
+
+-- A rule is enabled where it has a pair.
+pub enabled-some : (z : Sizes) (states rules c : List ℕ) (r n : ℕ) → n ≡ pairs (protocolOf z states rules) c r
+    → ltb 0 n ≡ enabled (protocolOf z states rules) c r
+enabled-some z states rules c r n h = ap (ltb 0) h ∙ sym (enabled-pairs (protocolOf z states rules) c r)
 
 -- A rule is enabled where its before pair is.
 pub enabled-pair : (z : Sizes) (states rules c : List ℕ) (r : ℕ) (x : Rule) (t : Bool)

@@ -1,7 +1,7 @@
--- Readers past the end, products of 16-bit numbers, and parts of a list. Assumes nothing.
+-- Readers past the end, products of bounded numbers, and parts of a list. Assumes nothing.
 use mathlib.Core.Path.{_≡_, sym, ap, _∙_}
 use mathlib.Core.List.{List}
-use Prim.Native.Nat.{ℕ, _+_, _-_, _*_, _≤_, _<_}
+use Prim.Native.Nat.{ℕ, zero, suc, _+_, _-_, _*_, _≤_, _<_}
 use native.Mathlib.Nat.{mul-le-mul}
 use native.Mathlib.Omega.{arith}
 use lib.ListN.{length, getD, drop, length-drop, drop-of-length-le, List·getD-eq-default}
@@ -45,13 +45,10 @@ pub past64 : (b : List ℕ) (k : ℕ) → length b ≤ k → 0 ≡ le64 b k
 unfolding le64
 past64 b k h = omega (arith, past32 b k h, past32 b (k + 4) (omega arith))
 
--- The product of two 16-bit numbers is a 32-bit number.
-pub product-small : (a b : ℕ) → a < 65536 → b < 65536 → a * b < 4294967296
-product-small a b h k =
-    let a′ : a ≤ 65535 = omega arith in
-    let b′ : b ≤ 65535 = omega arith in
-    let le : a * b ≤ 65535 * 65535 = mul-le-mul a′ b′ in
-    omega arith
+-- Two numbers below m have a product below m times m.
+pub product-below : (m a b : ℕ) → a < m → b < m → a * b < m * m
+product-below zero a b h k = absurd (omega arith)
+product-below (suc m) a b h k = let le : a * b ≤ m * m = mul-le-mul (omega arith) (omega arith) in omega arith
 
 -- The parts that a section is cut from: past the end, up to the end, and inside.
 pub section-past : (b : List ℕ) (m k n : ℕ) → m ≡ length b → m ≤ k → section b m (m - m) ≡ section b k n

@@ -1,5 +1,5 @@
 -- `machine::can_act` meets its contract: a refused shape is passed back.
-use Rattle.machine.specs.Calls.{enabledOf}
+use Rattle.machine.specs.Calls.{pairsOf}
 use Rattle.shape.specs.Shape.Laws.{sound-then, sound-else}
 use Rattle.shape.specs.Sound.Laws.{sound-at}
 use borrow.Author.Needs.{needs}
@@ -19,14 +19,14 @@ refusal-of-requires : tie.Need-refusal-of-requires
 refusal-of-requires c κs = search needs
 
 returns : tie.Need-returns
-unfolding enabledOf
+unfolding pairsOf
 returns c = search (sound-else, needs)
 
 can-act-in-requires : tie.Need-can-act-in-requires
 can-act-in-requires c κs = search (sound-at, needs)
 
 returns-2 : tie.Need-returns-2
-unfolding enabledOf
+unfolding pairsOf
 returns-2 c = search (sound-then, needs)
 
 pub can-act-spec : {M : Type 1} → statement M

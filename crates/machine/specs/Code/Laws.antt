@@ -14,6 +14,7 @@ use Rattle.theory.specs.Below.Laws.{all-same, first-is, first-passes, first-low
 use Rattle.theory.specs.Protocol.{Protocol, WellFormed, count, size, enabled, fire, terminal, shows, outputOf, unfit, startTest, fires, tried, after}
 use Rattle.theory.specs.Protocol.Laws.{terminal-off}
 use Rattle.theory.specs.Protocol.Lists.{tried-fires, tried-not, rule-fires}
+use Rattle.theory.specs.Pairs.{pairs}
 use Rattle.theory.specs.Ladder.{Layers, OrderedPartition, lowest, enabledIn}
 use Rattle.theory.specs.Ladder.Active.{enabledIn-elim}
 use Rattle.theory.specs.Machine.{Call, Reply, step, run, stepped, refused, admitted, admit, chosen, reply, countsAfter, stepReply, runReply}
@@ -35,6 +36,8 @@ use Rattle.counts.specs.Code.{countsFault, isOccupied}
 use Rattle.counts.specs.Code.Laws.{fault-admitted, admit-fault, fault-size}
 use Rattle.machine.specs.declared.Started.{Started}
 use Rattle.machine.specs.declared.Started.the-variants as started
+use Rattle.machine.specs.declared.Pairs.{Pairs}
+use Rattle.machine.specs.declared.Pairs.the-variants as paired
 use Rattle.machine.specs.declared.YesNo.{YesNo}
 use Rattle.machine.specs.declared.YesNo.the-variants as yesNo
 use Rattle.machine.specs.declared.Verdict.{Verdict}
@@ -247,12 +250,12 @@ module _ (b : List ℕ) (h : Header) (states rules : List ℕ) (hs : states ≡ 
       → Replies (protocolOf (h .sizes) states rules) (layersOf (h .sizes) rules) c x said d → Replies (protocolIn b h) (layersIn b h) c x said d
   replies-in c d x said g = rw (← hs, ← hr) g
 
-  -- Whether rule r, of number k, can act.
-  pub enabled-known : (c : List ℕ) (r k : ℕ) (t : Bool) (a : YesNo) → k ≡ r → r < h .sizes .rules
-      → t ≡ enabled (protocolOf (h .sizes) states rules) c k → a ≡ yesNo.Is t
-      → a ≡ cond (ltb r (h .sizes .rules)) (yesNo.Is (enabled (protocolIn b h) c r)) (yesNo.Refused (refusal 23 r))
-  enabled-known c r k t a q l e g =
-      rw (lt-ltb r (h .sizes .rules) l) (g ∙ ap yesNo.Is (e ∙ ap (λ P. enabled P c k) protocol-in ∙ ap (enabled (protocolIn b h) c) q))
+  -- The pairs of rule r, of number k.
+  pub pairs-known : (c : List ℕ) (r k n : ℕ) (a : Pairs) → k ≡ r → r < h .sizes .rules
+      → n ≡ pairs (protocolOf (h .sizes) states rules) c k → a ≡ paired.Number n
+      → a ≡ cond (ltb r (h .sizes .rules)) (paired.Number (pairs (protocolIn b h) c r)) (paired.Refused (refusal 23 r))
+  pairs-known c r k n a q l e g =
+      rw (lt-ltb r (h .sizes .rules) l) (g ∙ ap paired.Number (e ∙ ap (λ P. pairs P c k) protocol-in ∙ ap (pairs (protocolIn b h) c) q))
 
   pub terminal-in : (c : List ℕ) → SoundShape b h → (r : ℕ) (a : YesNo)
       → r ≡ chosen (protocolOf (h .sizes) states rules) (layersOf (h .sizes) rules) c → a ≡ yesNo.Is (eqb r (h .sizes .rules))
@@ -261,8 +264,9 @@ module _ (b : List ℕ) (h : Header) (states rules : List ℕ) (hs : states ≡ 
       let same : r ≡ chosen (protocolIn b h) (layersIn b h) c = rw (← hs, ← hr) e in
       g ∙ ap yesNo.Is (ap (λ k. eqb k (h .sizes .rules)) same ∙ sym (terminal-chosen (protocolIn b h) (sound .sections .partition) c))
 
-pub enabled-unknown : {A : Type 0} (r n : ℕ) (a x y : A) → n ≤ r → a ≡ y → a ≡ cond (ltb r n) x y
-enabled-unknown r n a x y l g = rw (le-ltb r n l) g
+-- A number that names no rule.
+pub number-unknown : {A : Type 0} (r n : ℕ) (a x y : A) → n ≤ r → a ≡ y → a ≡ cond (ltb r n) x y
+number-unknown r n a x y l g = rw (le-ltb r n l) g
 
 -- ---- Step
 

@@ -109,10 +109,13 @@ first-is n f i h none here =
 
 -- ---- Sums and extremes
 
-pub sum-zero : (n : ℕ) → sumBelow n (λ _. 0) ≡ 0
+pub sum-const : (k n : ℕ) → sumBelow n (λ _. k) ≡ n * k
 unfolding sumBelow
-sum-zero zero = refl
-sum-zero (suc n) = omega (arith, sum-zero n)
+sum-const k zero = omega arith
+sum-const k (suc n) = omega (arith, sum-const k n)
+
+pub sum-zero : (n : ℕ) → sumBelow n (λ _. 0) ≡ 0
+sum-zero n = omega (arith, sum-const 0 n)
 
 pub sum-add : (n : ℕ) (f g : ℕ → ℕ) → sumBelow n (λ k. f k + g k) ≡ sumBelow n f + sumBelow n g
 unfolding sumBelow
@@ -127,7 +130,13 @@ sum-mono (suc n) f g h = let ih : sumBelow n f ≤ sumBelow n g = sum-mono n f g
 pub sum-same : (n : ℕ) (f g : ℕ → ℕ) → ((k : ℕ) → k < n → f k ≡ g k) → sumBelow n f ≡ sumBelow n g
 sum-same n f g h = omega (arith, sum-mono n f g (λ k l. omega (arith, h k l)), sum-mono n g f (λ k l. omega (arith, h k l)))
 
-sum-split : (m n : ℕ) (f : ℕ → ℕ) → sumBelow (m + n) f ≡ sumBelow m f + sumBelow n (λ k. f (m + k))
+-- The sum of a table, by rows and by columns.
+pub sum-swap : (m n : ℕ) (f : ℕ → ℕ → ℕ) → sumBelow m (λ i. sumBelow n (λ j. f i j)) ≡ sumBelow n (λ j. sumBelow m (λ i. f i j))
+unfolding sumBelow
+sum-swap zero n f = sym (sum-zero n)
+sum-swap (suc m) n f = omega (arith, sum-swap m n f, sum-add n (λ j. sumBelow m (λ i. f i j)) (λ j. f m j))
+
+pub sum-split : (m n : ℕ) (f : ℕ → ℕ) → sumBelow (m + n) f ≡ sumBelow m f + sumBelow n (λ k. f (m + k))
 unfolding sumBelow
 sum-split m zero f = rw (add-zero m) (omega arith)
 sum-split m (suc n) f = rw (add-suc m n) (omega (arith, sum-split m n f))

@@ -16,11 +16,11 @@ use Rattle.theory.specs.Protocol.{Protocol, count, size, enabled, Shows,
 use Rattle.theory.specs.Protocol.Lists.{fires-rule, tried-not}
 
 -- The agents of one state, and of two, are no more than all.
-one-held : (c : List ℕ) (s : ℕ) → count c s ≤ size c
+pub one-held : (c : List ℕ) (s : ℕ) → count c s ≤ size c
 unfolding size
 one-held c s = omega (arith, weigh-at (λ _. 1) c s)
 
-two-held : (c : List ℕ) (s t : ℕ) → (s ≡ t → ⊥) → count c s + count c t ≤ size c
+pub two-held : (c : List ℕ) (s t : ℕ) → (s ≡ t → ⊥) → count c s + count c t ≤ size c
 unfolding size
 two-held c s t other =
     omega (

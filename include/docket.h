@@ -21,8 +21,8 @@
  *
  * What a function does. It writes only where it says here; it keeps nothing between calls and allocates nothing. So the
  * functions may be called from several threads at once, each with its own counts, answers and output. They use about
- * 32 KB of stack where a tree is 40 deep, else less; DOCKET_STACK bytes are enough. The library needs memcpy and memset,
- * and no other function from elsewhere.
+ * 32 KB of stack where a tree is 40 deep, else less; DOCKET_STACK bytes are enough. The library needs memcpy and memset
+ * at most, and no other function from elsewhere.
  *
  * What a function returns: 0 where it did its work, else a refusal, which has a number and a place. There is a table of
  * tests for the check, for the calls of the machine and for docket_write. The tests are made in the order of the table,
@@ -96,7 +96,7 @@
 extern "C" {
 #endif
 
-#define DOCKET_VERSION "0.7.0"   /* of this header and its library, not of a docket */
+#define DOCKET_VERSION "0.8.0"   /* of this header and its library, not of a docket */
 #define DOCKET_MAX_BYTES 65535   /* a longer file is refused with 1, 0; so read at most one byte more */
 #define DOCKET_MAX_STATES 64     /* counts for every docket fit an array of so many */
 #define DOCKET_MAX_RULES 256     /* a number for each rule of every docket fits an array of so many */

@@ -4,11 +4,15 @@
 //!     bench            times all cases
 //!     bench WORD       times the cases whose name has the word
 //!     bench answers    times nothing: all three must say the same in every case
+//!     bench before ARCHIVE [WORD]
+//!                      times the checks of another libdocket.a, such as that of an earlier commit, and of this one,
+//!                      both loaded as shared objects
 //!
 //! Each round times all three, one after the other, over as many repetitions as take some milliseconds. A ratio is the
-//! median of the rounds' ratios: below 1, the proved implementation is the faster one.
+//! median of the rounds' ratios: below 1, the proved implementation is the faster one, or this library.
 
 mod baseline;
+mod loaded;
 
 use second::Docket;
 use std::hint::black_box;
@@ -29,9 +33,13 @@ struct Case<'a> {
 }
 
 fn main() {
-    let word = std::env::args().nth(1).unwrap_or_default();
+    let argument = |place| std::env::args().nth(place).unwrap_or_default();
+    let word = argument(1);
     if word == "answers" {
         return compare_answers();
+    }
+    if word == "before" {
+        return compare_libraries(&argument(2), &argument(3));
     }
     println!(
         "{:<52} {:>12} {:>12} {:>6} {:>7}",
@@ -68,14 +76,34 @@ fn same_answer(case: &mut Case) {
     );
 }
 
+/// Prints, for each check whose name has the word, nanoseconds with the other library and with this one, and the ratio.
+fn compare_libraries(archive: &str, word: &str) {
+    let (old, new) = (loaded::check_of(archive.as_ref()), loaded::check_of(&loaded::current()));
+    println!("{:<52} {:>12} {:>12} {:>6}", "case", "before", "now", "ratio");
+    for (name, docket) in checks().iter().filter(|(name, _)| name.contains(word)) {
+        assert_eq!(old(docket), new(docket), "{name}: the other library answers otherwise");
+        let mut calls: [Box<dyn FnMut() -> u64>; 2] =
+            [Box::new(|| new(black_box(docket))), Box::new(|| old(black_box(docket)))];
+        let (rounds, repetitions) = rounds(&mut calls);
+        let of = |value: &dyn Fn(&[f64; 2]) -> f64| median(rounds.iter().map(value).collect());
+        let each = 1e9 / repetitions as f64;
+        let (now, before) = (of(&|round| round[0] * each), of(&|round| round[1] * each));
+        let ratio = of(&|round| round[0] / round[1]);
+        println!("{name:<52} {before:>9.1} ns {now:>9.1} ns {ratio:>6.2}");
+    }
+}
+
+/// The seconds of each call in each round, and how often a call is made in a round.
+fn rounds<const N: usize>(calls: &mut [Box<dyn FnMut() -> u64 + '_>; N]) -> (Vec<[f64; N]>, u64) {
+    let repetitions = repetitions(&mut calls[0]);
+    let round = |_| std::array::from_fn(|i| seconds(&mut calls[i], repetitions));
+    ((0..ROUNDS).map(round).collect(), repetitions)
+}
+
 /// Prints nanoseconds a unit and the two ratios; hands back that to the baseline.
 fn time(mut case: Case) -> f64 {
     same_answer(&mut case);
-    let repetitions = repetitions(&mut case.calls[0]);
-    let mut rounds: Vec<[f64; 3]> = vec![];
-    for _ in 0..ROUNDS {
-        rounds.push(std::array::from_fn(|i| seconds(&mut case.calls[i], repetitions)));
-    }
+    let (rounds, repetitions) = rounds(&mut case.calls);
     let each = 1e9 / (repetitions * case.units) as f64;
     let of = |value: &dyn Fn(&[f64; 3]) -> f64| median(rounds.iter().map(value).collect());
     let (proved, baseline) = (of(&|round| round[0] * each), of(&|round| round[1] * each));
@@ -157,7 +185,13 @@ impl Inputs {
 fn checks() -> Vec<(String, Vec<u8>)> {
     let mut dockets: Vec<(String, Docket)> = vec![("check, every count at its limit".into(), make::largest())];
     for nodes in [64, 256, 1024, 2048] {
-        dockets.push((format!("check, 60 states, {nodes} nodes"), make::relay(60, nodes)));
+        let docket = make::relay(60, nodes);
+        let sets = set_nodes(&docket);
+        assert!(2 * sets >= nodes, "of {nodes} nodes only {sets} test sets");
+        dockets.push((
+            format!("check, 60 states, {nodes} nodes, {sets} of kinds 1, 5, 6"),
+            docket,
+        ));
     }
     dockets.push((
         "check, 2,048 nodes, 128 leaves, 1 rule".into(),
@@ -187,6 +221,12 @@ fn checks() -> Vec<(String, Vec<u8>)> {
         .into_iter()
         .map(|(name, docket)| (name, docket.bytes()))
         .collect()
+}
+
+/// How many nodes are of kinds 1, 5 and 6, whose grounds are tests of sets.
+fn set_nodes(docket: &Docket) -> usize {
+    let tests_set = |node: &&second::Node| matches!(node.kind, 1 | 5 | 6);
+    docket.nodes.iter().filter(tests_set).count()
 }
 
 /// Dockets of version 2, with their rules in order; those whose names are without fixed agents are dockets of version 1 in

@@ -1,6 +1,6 @@
 #!/usr/bin/env bash
 # Tests the C boundary on every docket of a folder: tests/corpus, or the one named. Each docket has its .expect file beside it.
-# boundary.c and writing.c run under AddressSanitizer, stack.c measures the stack, and the library may need memcpy and memset alone.
+# boundary.c and writing.c run under AddressSanitizer, stack.c measures the stack, and the library may need memcpy and memset at most.
 set -euo pipefail
 corpus=$(realpath -- "${1-$(dirname "$0")/../corpus}")
 cd "$(dirname "$0")/../.."
@@ -24,9 +24,9 @@ add() {
   passed=$((passed + BASH_REMATCH[1]))
 }
 
-needed=$(nm -u "$library" | awk '$1 == "U" { print $2 }' | sort -u | tr '\n' ' ')
-if [[ $needed != 'memcpy memset ' ]]; then
-  echo "boundary: the library needs '$needed', and docket.h says memcpy and memset"
+needed=$(nm -u "$library" | awk '$1 == "U" && $2 != "memcpy" && $2 != "memset" { print $2 }' | sort -u | tr '\n' ' ')
+if [[ -n $needed ]]; then
+  echo "boundary: the library needs '$needed', and docket.h says at most memcpy and memset"
   exit 1
 fi
 passed=$((passed + 1))

@@ -26,9 +26,10 @@ pub fn spread_sum(docket: &Docket) -> u64 {
     docket.weights.chunks_exact(docket.states.len()).map(spread).sum()
 }
 
-/// Test 10: for each s and each u of a lower layer, the first rule of a layer lower than that of s that fits.
+/// Test 10: for each s and each u of a lower layer, which a rule of layer 0 has none of, the first rule of a layer lower
+/// than that of s that fits.
 pub fn handover(docket: &Docket) -> Result<(), Refusal> {
-    for (place, s) in docket.rules.iter().enumerate() {
+    for (place, s) in docket.rules.iter().enumerate().filter(|(_, s)| s[4] > 0) {
         for u in docket.rules.iter().filter(|u| u[4] < s[4]) {
             let sum = sum(s, u);
             if !docket.rules.iter().any(|rule| rule[4] < s[4] && inside(rule, sum)) {

@@ -44,6 +44,14 @@ disjointOf a b = allBelow 64 (λ i. not (member a i && member b i))
 abbrev pub lowestOf : ℕ → ℕ
 lowestOf w = firstBelow 64 (member w)
 
--- Several sets of numbers below 64 * n, each in n words, one behind another: whether i is in set k.
-unfoldable pub inWords : ℕ → List ℕ → ℕ → ℕ → Bool
-inWords n ws k i = ltb i (64 * n) && member (getD ws (n * k + i / 64) 0) (i % 64)
+-- A set of numbers in words, 64 numbers to a word: whether i is in it.
+unfoldable pub inWords : List ℕ → ℕ → Bool
+inWords ws i = member (getD ws (i / 64) 0) (i % 64)
+
+-- Of the set A, the 64 numbers from 64 q on, counted from there.
+unfoldable pub inWord : ℕ → (ℕ → Bool) → ℕ → Bool
+inWord q A i = ltb i 64 && A (64 * q + i)
+
+-- Of the set A, the numbers below 64 q.
+unfoldable pub firstWords : ℕ → (ℕ → Bool) → ℕ → Bool
+firstWords q A i = ltb i (64 * q) && A i

@@ -1,9 +1,9 @@
-// Words of 64 bits as sets of the numbers below 64.
+// Words of 64 bits as sets of the numbers below 64, and sets in four words.
 ghost use mathlib.Core.Path.{_≡_};
 ghost use Prim.Native.Nat.{_<_};
 ghost use Rattle.theory.specs.Bool.{member};
 ghost use Rattle.theory.specs.Tree.{setSize};
-ghost use Rattle.bits.specs.Code.{singleOf, fullOf, unionOf, withIf, withoutOf, subsetOf, disjointOf, lowestOf};
+ghost use Rattle.bits.specs.Code.{singleOf, fullOf, unionOf, withIf, withoutOf, subsetOf, disjointOf, lowestOf, inWords, inWord};
 
 // Whether i is a member.
 pub fn has(w: u64, i: usize) -> bool
@@ -84,4 +84,11 @@ pub fn lowest(w: u64) -> u32
     ensures { λ r. ⌜ r ≡ lowestOf w ⌝ }
 {
     u64::trailing_zeros(w)
+}
+
+// Of a set in four words, member i of word q being 64 q + i, word q; no number where q is 4 or more.
+pub fn word(set: [u64; 4], q: usize) -> u64
+    ensures { λ r. ⌜ member r ≡ inWord q (inWords set) ⌝ }
+{
+    if q < 4 { set[q] } else { 0 }
 }

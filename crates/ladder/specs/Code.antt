@@ -57,6 +57,10 @@ fitsIn rules l j v =
     let q = ruleQ rules v in
     ltb (ruleLayer rules v) l && (coversOf j p q p && coversOf j p q q)
 
+-- Where the search among n rules for one of a layer below l begins: behind the last where l is 0, below which there is none.
+unfoldable pub firstLower : ℕ → ℕ → ℕ
+firstLower l n = cond (eqb l 0) n 0
+
 -- The states below 64 of which j has an agent.
 unfoldable pub statesIn : PreSequence → ℕ → Bool
 statesIn j x = ltb x 64 && ltb 0 (heldOf j x)

@@ -9,7 +9,7 @@ ghost use Rattle.theory.specs.Ladder.{lowersAt, handoverAt, spread};
 ghost use Rattle.format.specs.Code.{Value};
 ghost use Rattle.format.specs.Format.{layerWeight, protocolOf, layersOf};
 ghost use Rattle.theory.specs.Bool.{member};
-ghost use Rattle.ladder.specs.Code.{inPair, beyondOf, preSequenceOf, coversOf, statesIn, SoundPair, SoundPairs, fitsIn};
+ghost use Rattle.ladder.specs.Code.{inPair, beyondOf, preSequenceOf, coversOf, statesIn, SoundPair, SoundPairs, fitsIn, firstLower};
 use format::Rule;
 use format::Sizes;
 
@@ -136,6 +136,13 @@ fn rule_fits(rules: &[u8], layer: usize, j: PreSequence, set: u64, v: u16) -> bo
     false
 }
 
+// Where the search for u begins: at the first rule, and behind the last where the layer is 0, below which there is none.
+fn first_lower(layer: usize, n: u16) -> u16
+    ensures { λ u. ⌜ u ≡ firstLower layer n ⌝ }
+{
+    if layer == 0 { n } else { 0 }
+}
+
 // Test 10: the lowest rule s at which handover fails, or the number of rules.
 pub fn handover_fault(states: &[u8], rules: &[u8], z: Sizes) -> u16
     requires { ⌜ SoundPairs z (now rules) ⌝ }
@@ -148,7 +155,7 @@ pub fn handover_fault(states: &[u8], rules: &[u8], z: Sizes) -> u16
     'test: while s < z.rules {
         let rule = format::read_rule(rules, s);
         let layer = rule.layer;
-        let mut u: u16 = 0;
+        let mut u = first_lower(layer, z.rules);
         while u < z.rules {
             let other = format::read_rule(rules, u);
             if other.layer < layer {

@@ -169,10 +169,11 @@ fn rules_keep(
         (factsOf facts .unused (e + 1)) (endWeight z (now (leaves .entry)) l e) ⌝ }
 {
     let run = (e as usize) + 1;
+    let set = facts.unused(run);
     let mut r: u16 = 0;
     while r < z.rules {
         let word = r / 64;
-        let unused = facts.unused(run, word as usize);
+        let unused = bits::word(set, word as usize);
         let n = format::lesser(z.rules as u32, 64 * (word as u32) + 64) as u16;
         if !word_keeps(by, rules, leaves, z, l, e, unused, r, n) {
             return false;

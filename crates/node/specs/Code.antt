@@ -3,7 +3,8 @@
 use mathlib.Core.Path.{_≡_}
 use mathlib.Core.Bool.{Bool, true, false, not, cond, Bool·beq, _&&_}
 use mathlib.Core.List.{List, [], _∷_}
-use Prim.Native.Nat.{ℕ, _^_, _≤_, _<_}
+use Prim.Native.Nat.{ℕ, _*_, _^_, _≤_, _<_}
+use lib.ListN.{length}
 use lib.Dec.{leb, ltb, eqb}
 use Rattle.theory.specs.Bool.{member, imp}
 use Rattle.theory.specs.Below.{allBelow}
@@ -11,11 +12,11 @@ use Rattle.theory.specs.Protocol.{Protocol}
 use Rattle.theory.specs.Facts.{Facts, withAbsent, withAtMostOne, withUnused}
 use Rattle.theory.specs.Tree as theory
 use Rattle.theory.specs.Tree.{Assumption, assuming, refusalNumber, ground, children, takes, puts, touches, within, isTrap, isSiphon, node}
-use Rattle.bits.specs.Code.{amongOf, withoutOf}
+use Rattle.bits.specs.Code.{amongOf, withoutOf, inWords, inWord}
 use Rattle.format.specs.Format.{isOutput, ruleP, ruleQ, ruleP′, ruleQ′, nodeKind, nodeParty, nodeArgument, nodeSet}
 use Rattle.format.specs.Format.{protocolOf, treeOf, weightsOf}
 use Rattle.format.specs.declared.Sizes.{Sizes}
-use Rattle.facts.specs.Code.{factsOf, inWord}
+use Rattle.facts.specs.Code.{factsOf, isEnd, onlyIf}
 use Rattle.node.specs.declared.Aim.{Aim}
 use Rattle.node.specs.declared.Flow.{Flow}
 use Rattle.node.specs.declared.Node.{Node}
@@ -50,11 +51,12 @@ pub record AimFits (z : Sizes) (states : List ℕ) (a : Aim) : Type 0 where
 abbrev pub nodeOf : List ℕ → ℕ → Node
 nodeOf nodes i = record { kind = nodeKind nodes i; party = nodeParty nodes i; argument = nodeArgument nodes i; set = nodeSet nodes i }
 
--- What a node needs of tests 3 and 6: states and rules are so few that words hold them, and the states of a rule are
--- below 64.
+-- What a node needs of tests 3, 4 and 6: states and rules are so few that words hold them, the section is whole, and the
+-- states of a rule are below 64.
 pub record SoundRules (z : Sizes) (rules : List ℕ) : Type 0 where
   pub states-most : z .states ≤ 64
   pub rules-most : z .rules ≤ 256
+  pub whole : 5 * z .rules ≤ length rules
   pub p-lt : (r : ℕ) → r < z .rules → ruleP rules r < 64
   pub q-lt : (r : ℕ) → r < z .rules → ruleQ rules r < 64
   pub p′-lt : (r : ℕ) → r < z .rules → ruleP′ rules r < 64
@@ -150,6 +152,7 @@ outputGone z states a F k = allBelow (z .states) (λ s. imp (Bool·beq (isOutput
 -- Kind 3: t says whether the fields are good; then they name a run, and a rule whose before pair is below 64.
 pub record NamesRule (z : Sizes) (rules : List ℕ) (runs : ℕ) (n : Node) (t : Bool) : Type 0 where
   pub is : t ≡ ruleFields z runs n
+  pub party-least : t ≡ true → 1 ≤ n .party
   pub party-lt : t ≡ true → n .party < 3
   pub p-lt : t ≡ true → ruleP rules (n .argument) < 64
   pub q-lt : t ≡ true → ruleQ rules (n .argument) < 64
@@ -165,6 +168,7 @@ disabledChildren F k p q =
 -- Kinds 5 and 6: t says whether the fields are good; then they name a run, and a set of states, which a word holds.
 pub record NamesSet (z : Sizes) (runs : ℕ) (n : Node) (t : Bool) : Type 0 where
   pub is : t ≡ setFields z runs n
+  pub party-least : t ≡ true → 1 ≤ n .party
   pub party-lt : t ≡ true → n .party < 3
   pub set-lt : t ≡ true → n .set < 2 ^ z .states
   pub states-most : z .states ≤ 64
@@ -183,3 +187,7 @@ setGround reversed P F n =
 unfoldable pub setChild : Bool → Protocol → Facts → Node → Facts
 setChild reversed P F n =
     withUnused (withAbsent F (partyIf reversed (n .party)) (member (n .set))) (n .party) (touches P (member (n .set)))
+
+-- The facts F, and that the set in the word w is absent at party k and the rules in the words ws are unused in run j.
+unfoldable pub goneOf : Facts → ℕ → ℕ → ℕ → List ℕ → Facts
+goneOf F k w j ws = withUnused (withAbsent F k (onlyIf (ltb k 3) (member w))) j (onlyIf (isEnd j) (inWords ws))

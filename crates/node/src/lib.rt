@@ -1,21 +1,22 @@
 // What a tree refutes, and what one node of it comes to: its fields, its ground and the facts of its children. A set of
 // states is a word of 64 bits. A function is lent the states section where its contract speaks of the protocol.
 ghost use mathlib.Core.Path.{_≡_};
-ghost use mathlib.Core.Bool.{true, _&&_};
+ghost use mathlib.Core.Bool.{true, _&&_, _||_};
 ghost use mathlib.Core.List.{[], _∷_};
 ghost use Prim.Native.Nat.{_^_, _≤_, _<_};
 ghost use lib.Dec.{eqb, ltb};
 ghost use Rattle.theory.specs.Bool.{member};
-ghost use Rattle.theory.specs.Facts.{withAbsent, withPresent, withUnused};
+ghost use Rattle.theory.specs.Facts.{withAbsent, withPresent};
 ghost use Rattle.theory.specs.Leaf.{leafCloses};
 ghost use Rattle.theory.specs.Remainder.{remainderCloses};
 ghost use Rattle.theory.specs.Tree.{touches};
 ghost use Rattle.format.specs.Format.{ruleP, ruleQ, protocolOf, weightsOf};
-ghost use Rattle.facts.specs.Code.{factsOf, onlyIf};
+ghost use Rattle.bits.specs.Code.{inWords};
+ghost use Rattle.facts.specs.Code.{factsOf};
 ghost use Rattle.node.specs.Code.{assumedWord, AimFits, nodeOf, SoundRules, FlowAt, breakingOf, isTrapOf};
 ghost use Rattle.node.specs.Code.{check, judged, turnAt, turnOfOutcome, turnOfStep};
 ghost use Rattle.node.specs.Code.{leafFields, runFields, stateFields, ruleFields, setFields, remainderFields};
-ghost use Rattle.node.specs.Code.{outputGone, NamesRule, disabledChildren, NamesSet, partyIf, setGround, setChild};
+ghost use Rattle.node.specs.Code.{outputGone, NamesRule, disabledChildren, NamesSet, partyIf, goneOf, setGround, setChild};
 use facts::Facts;
 use format::Sizes;
 use share::Closing;
@@ -60,10 +61,10 @@ struct Flow {
     putting: u64,
 }
 
-// Whether a set is a trap, or a siphon, and the facts of the child.
+// Whether a set is a trap, or a siphon, and the rules that touch it, in four words.
 struct SetTested {
     trap: bool,
-    child: Facts,
+    touching: [u64; 4],
 }
 
 // The fields of node i.
@@ -197,6 +198,15 @@ fn split_step(z: Sizes, runs: usize, n: Node, facts: Facts) -> Step
     judge(fields, true, Outcome::Children, first, second)
 }
 
+// Whether one of two states, which are below 64, is in the set.
+fn meets(set: u64, a: u8, b: u8) -> bool
+    requires { ⌜ a < 64 ⌝ }
+    requires { ⌜ b < 64 ⌝ }
+    ensures { λ t. ⌜ t ≡ (member set a || member set b) ⌝ }
+{
+    bits::has_below(set, a as usize) | bits::has_below(set, b as usize)
+}
+
 // The rules from 64 word on that take from the set and those that put into it.
 fn word_flow(states: &[u8], rules: &[u8], z: Sizes, set: u64, word: u16) -> Flow
     requires { ⌜ SoundRules z (now rules) ⌝ }
@@ -211,9 +221,9 @@ fn word_flow(states: &[u8], rules: &[u8], z: Sizes, set: u64, word: u16) -> Flow
         if z.rules <= r {
             break;
         }
-        let t = format::read_rule(rules, r);
-        let takes = bits::has_below(set, t.p) | bits::has_below(set, t.q);
-        let puts = bits::has_below(set, t.p2) | bits::has_below(set, t.q2);
+        let at = 5 * (r as usize);
+        let takes = meets(set, rules[at], rules[at + 1]);
+        let puts = meets(set, rules[at + 2], rules[at + 3]);
         taking = bits::with_if(taking, takes, i as usize);
         putting = bits::with_if(putting, puts, i as usize);
         i += 1;
@@ -232,14 +242,39 @@ fn breaking(f: Flow, reversed: bool) -> u64
     bits::without(f.taking, f.putting)
 }
 
-// Whether the set is a trap of the rules that are not unused in the run; with reversed, of the reversed rules: a siphon.
-// The child has the facts of `marked`, and in the run the rules that touch the set are unused.
+// Whether the set is a trap of the rules that are not unused; with reversed, of the reversed rules: a siphon. And the rules
+// that touch it. A set of rules is in four words.
 fn test_set(
     states: &[u8],
     rules: &[u8],
     z: Sizes,
+    unused: [u64; 4],
+    set: u64,
+    reversed: bool,
+) -> SetTested
+    requires { ⌜ SoundRules z (now rules) ⌝ }
+    ensures trap { λ t. ⌜ t .trap ≡ isTrapOf reversed (protocolOf z (now (states .entry)) (now (rules .entry)))
+        (inWords unused) (member set) ⌝ }
+    ensures touching { λ t. ⌜ inWords (t .touching) ≡ touches (protocolOf z (now (states .entry)) (now (rules .entry))) (member set) ⌝ }
+{
+    let mut trap = true;
+    let mut touching: [u64; 4] = [0; 4];
+    let mut word: u16 = 0;
+    while 64 * word < z.rules {
+        let f = word_flow(states, rules, z, set, word);
+        trap = trap & bits::subset(breaking(f, reversed), bits::word(unused, word as usize));
+        touching[word as usize] = bits::union(f.taking, f.putting);
+        word += 1;
+    }
+    SetTested { trap, touching }
+}
+
+// The same for the rules that are not unused in the run.
+fn test_in_run(
+    states: &[u8],
+    rules: &[u8],
+    z: Sizes,
     facts: Facts,
-    marked: Facts,
     run: usize,
     set: u64,
     reversed: bool,
@@ -247,20 +282,10 @@ fn test_set(
     requires { ⌜ SoundRules z (now rules) ⌝ }
     ensures trap { λ t. ⌜ t .trap ≡ isTrapOf reversed (protocolOf z (now (states .entry)) (now (rules .entry)))
         (factsOf facts .unused run) (member set) ⌝ }
-    ensures child { λ t. ⌜ factsOf (t .child) ≡ withUnused (factsOf marked) run
-        (onlyIf (ltb run 3) (touches (protocolOf z (now (states .entry)) (now (rules .entry))) (member set))) ⌝ }
+    ensures touching { λ t. ⌜ inWords (t .touching) ≡ touches (protocolOf z (now (states .entry)) (now (rules .entry))) (member set) ⌝ }
 {
-    let mut trap = true;
-    let mut child = marked;
-    let mut word: u16 = 0;
-    while 64 * word < z.rules {
-        let f = word_flow(states, rules, z, set, word);
-        let unused = facts.unused(run, word as usize);
-        trap = trap & bits::subset(breaking(f, reversed), unused);
-        child = child.mark_unused(run, word as usize, bits::union(f.taking, f.putting));
-        word += 1;
-    }
-    SetTested { trap, child }
+    let unused = facts.unused(run);
+    test_set(states, rules, z, unused, set, reversed)
 }
 
 // Whether a word is a non-empty set of states.
@@ -287,6 +312,15 @@ fn party_if(t: bool, party: usize) -> usize
     if t { party } else { 0 }
 }
 
+// The facts, and that the set is absent at the party and the rules that touch it are unused in the run.
+fn mark_gone(facts: Facts, party: usize, set: u64, run: usize, t: SetTested) -> Facts
+    ensures { λ f. ⌜ factsOf f ≡ goneOf (factsOf facts) party set run (t .touching) ⌝ }
+{
+    let touching = t.touching;
+    let gone = facts.mark_absent(party, set);
+    gone.mark_unused(run, touching)
+}
+
 // Kinds 5 and 6: a trap that is absent at its end was absent at the start; with reversed, a siphon that is absent at the
 // start is absent at its end. The rules that touch it are unused.
 fn set_step(
@@ -308,9 +342,9 @@ fn set_step(
     let from = party_if(!reversed, n.party);
     let absent = bits::subset(n.set, facts.absent(from));
     let to = party_if(reversed, n.party);
-    let marked = facts.mark_absent(to, n.set);
-    let t = test_set(states, rules, z, facts, marked, n.party, n.set, reversed);
-    judge(fields, absent & t.trap, Outcome::Child, t.child, t.child)
+    let t = test_in_run(states, rules, z, facts, n.party, n.set, reversed);
+    let child = mark_gone(facts, to, n.set, n.party, t);
+    judge(fields, absent & t.trap, Outcome::Child, child, child)
 }
 
 // Kind 7: the remainder rule; the set field is the modulus.
@@ -350,14 +384,14 @@ pub fn node_step(
 {
     let n = node_at(nodes, i);
     let kind = n.kind;
+    let reversed = kind == 6;
     match kind {
         0 => leaf_step(states, rules, leaves, z, n, facts),
         1 => output_step(states, z, aim, n, facts),
         2 => contradiction_step(z, aim.runs, n, facts),
         3 => disabled_step(rules, z, aim.runs, n, facts),
         4 => split_step(z, aim.runs, n, facts),
-        5 => set_step(states, rules, z, aim.runs, n, facts, false),
-        6 => set_step(states, rules, z, aim.runs, n, facts, true),
+        5 | 6 => set_step(states, rules, z, aim.runs, n, facts, reversed),
         7 => remainder_step(states, rules, leaves, z, n, facts),
         8..=255 => judge(false, true, Outcome::Closed, facts, facts),
     }

@@ -3,8 +3,8 @@
 use mathlib.Core.Path.{_≡_}
 use mathlib.Core.Bool.{true, false, cond, _||_}
 use mathlib.Core.List.{List}
-use Prim.Native.Nat.{ℕ}
-use lib.Dec.{eqb}
+use Prim.Native.Nat.{ℕ, _/_, _%_}
+use lib.Dec.{eqb, ltb}
 use Rattle.theory.specs.Tree.{Walked, next, refused, setSize}
 use Rattle.format.specs.Format.{nodeKind, nodeSet}
 use Rattle.format.specs.declared.Sizes.{Sizes}
@@ -20,6 +20,10 @@ pub mod Laws
 abbrev pub walkedOf : Walk → Walked
 walkedOf (Next j) = next j
 walkedOf (Refused r) = refused (r .number) (r .place)
+
+-- What one number says of a walk: below 65,536 the next node, else a refusal, its number times 65,536 plus its place.
+unfoldable pub walkedIn : ℕ → Walked
+walkedIn c = cond (ltb c 65536) (next c) (refused (c / 65536) (c % 65536))
 
 -- The refusal of a refused walk; 0, 0 for another.
 abbrev pub refusalOf : Walk → Refusal

@@ -1,13 +1,13 @@
 // The walk of a tree in preorder, tests 12 and 13, and the width of its sets.
 // A function is lent a section where its contract speaks of the protocol.
 ghost use mathlib.Core.Path.{_≡_};
-ghost use Prim.Native.Nat.{_≤_, max};
+ghost use Prim.Native.Nat.{_≤_, _<_};
 ghost use Rattle.theory.specs.Facts.{fresh};
 ghost use Rattle.theory.specs.Tree.{refused, disagreement, treeAt, treeAnswer, widest as widestOf};
 ghost use Rattle.format.specs.Format.{protocolOf, treeOf, weightsOf};
 ghost use Rattle.facts.specs.Code.{factsOf};
 ghost use Rattle.node.specs.Code.{assumptionOf, AimFits, SoundRules};
-ghost use Rattle.tree.specs.Code.{walkedOf, refusalOf, Disagrees, setSizeAt};
+ghost use Rattle.tree.specs.Code.{walkedOf, walkedIn, refusalOf, Disagrees, setSizeAt};
 use facts::Facts;
 use format::Flag;
 use format::Sizes;
@@ -42,7 +42,29 @@ fn refuse(number: u32, i: u16) -> Walk
     Walk::Refused(Refusal { number, place })
 }
 
-// Node i and all below it, on the facts, where the nodes may be so many deep.
+// In the walk itself its answer is one number, as numbers need not lie in memory: below 65,536 the next node, else a
+// refusal, its number times 65,536 plus its place.
+fn refusal_code(number: u32, i: u16) -> u32
+    requires { ⌜ 1 ≤ number ⌝ }
+    requires { ⌜ number < 65536 ⌝ }
+    ensures { λ c. ⌜ walkedIn c ≡ refused number i ⌝ }
+{
+    number * 65536 + (i as u32)
+}
+
+// The walk that the number stands for.
+fn walk_of(code: u32) -> Walk
+    ensures { λ w. ⌜ walkedOf w ≡ walkedIn code ⌝ }
+{
+    if code < 65536 {
+        return Walk::Next(code as u16);
+    }
+    let place = (code % 65536) as u16;
+    refuse(code / 65536, place)
+}
+
+// Node `start` and all below it, on the facts given, where the nodes may be so many deep. The loop goes from a node to its
+// last child; a first child of two has a walk of its own.
 fn descend(
     states: &[u8],
     rules: &[u8],
@@ -50,40 +72,51 @@ fn descend(
     leaves: &[u8],
     z: Sizes,
     aim: Aim,
-    left: u16,
-    facts: Facts,
-    i: u16,
-) -> Walk
+    depth: u16,
+    given: Facts,
+    start: u16,
+) -> u32
     requires { ⌜ SoundRules z (now rules) ⌝ }
     requires { ⌜ AimFits z (now states) aim ⌝ }
-    ensures { λ w. ⌜ walkedOf w ≡ treeAt (protocolOf z (now (states .entry)) (now (rules .entry)))
+    ensures { λ c. ⌜ walkedIn c ≡ treeAt (protocolOf z (now (states .entry)) (now (rules .entry)))
         (assumptionOf (protocolOf z (now (states .entry)) (now (rules .entry))) (weightsOf z (now (leaves .entry))) aim)
-        (treeOf z (now (nodes .entry))) left (factsOf facts) i ⌝ }
+        (treeOf z (now (nodes .entry))) depth (factsOf given) start ⌝ }
 {
-    if left < 1 {
-        return refuse(12, i);
-    }
-    if z.nodes <= i {
-        return refuse(12, z.nodes);
-    }
-    let step = node::node_step(states, rules, nodes, leaves, z, aim, facts, i);
-    let outcome = step.outcome;
-    let first = step.first;
-    let second = step.second;
-    let next = i + 1;
-    let rest = left - 1;
-    match outcome {
-        Outcome::Refused(number) => refuse(number, i),
-        Outcome::Closed => Walk::Next(next),
-        Outcome::Child => descend(states, rules, nodes, leaves, z, aim, rest, first, next),
-        Outcome::Children => {
-            let below = descend(states, rules, nodes, leaves, z, aim, rest, first, next);
-            let Walk::Next(j) = below else {
-                return below;
-            };
-            descend(states, rules, nodes, leaves, z, aim, rest, second, j)
+    let mut left = depth;
+    let mut facts = given;
+    let mut i = start;
+    while 0 < left {
+        if z.nodes <= i {
+            return refusal_code(12, z.nodes);
+        }
+        let step = node::node_step(states, rules, nodes, leaves, z, aim, facts, i);
+        let outcome = step.outcome;
+        let first = step.first;
+        let second = step.second;
+        let next = i + 1;
+        left -= 1;
+        match outcome {
+            Outcome::Refused(number) => {
+                return refusal_code(number, i);
+            }
+            Outcome::Closed => {
+                return next as u32;
+            }
+            Outcome::Child => {
+                facts = first;
+                i = next;
+            }
+            Outcome::Children => {
+                let below = descend(states, rules, nodes, leaves, z, aim, left, first, next);
+                if 65536 <= below {
+                    return below;
+                }
+                facts = second;
+                i = below as u16;
+            }
         }
     }
+    refusal_code(12, i)
 }
 
 // The facts at the root: every state with fixed agents is present at the start, every other that is no input is absent.
@@ -105,7 +138,8 @@ fn walk_tree(states: &[u8], rules: &[u8], nodes: &[u8], leaves: &[u8], z: Sizes,
         (treeOf z (now (nodes .entry))) ⌝ }
 {
     let facts = root_facts(states, rules, z);
-    let end = descend(states, rules, nodes, leaves, z, aim, Facts::DEPTH, facts, 0);
+    let code = descend(states, rules, nodes, leaves, z, aim, Facts::DEPTH, facts, 0);
+    let end = walk_of(code);
     let Walk::Next(j) = end else {
         return end;
     };

@@ -1,7 +1,7 @@
 -- The members of a number, what the operations on words do to them, and sets in arrays of words. Where a law needs no
 -- bound it is of every number. Assumes nothing.
 use mathlib.Core.Path.{_≡_, refl, sym, ap, _∙_, fun-ext}
-use mathlib.Core.Bool.{Bool, true, false, not, _&&_, _||_, Bool·beq, and-false, and-true, and-comm, or-comm, or-false}
+use mathlib.Core.Bool.{Bool, true, false, not, _&&_, _||_, Bool·beq, and-false, and-true, and-comm, or-false}
 use mathlib.Core.List.{List}
 use mathlib.Core.Logic.{by-cases}
 use Prim.Native.Nat.{ℕ, zero, suc, _+_, _-_, _*_, _/_, _%_, _^_, _≤_, _<_, min, max}
@@ -9,12 +9,14 @@ use native.Mathlib.Nat.{zero-mul, mod-lt, pow-suc, pow-zero, zero-div, div-one, 
 use native.Mathlib.Numerals.{one-add}
 use native.Mathlib.Decide.{decLt}
 use native.Mathlib.Omega.{arith}
-use lib.Arith.{digits-mod, digits-div, lt-one, bin-ind}
+use lib.Arith.{digits-mod, digits-div, lt-of-le-ne, lt-one, bin-ind}
 use lib.Pow.{pow-pos, pow-mono, shr-shr, shl-exact}
 use lib.Bits.{bitAnd, bitOr, and-step, or-step, and-le-l}
 use lib.Count.{ones, ones-step, trailingZeros}
+use mir.Syntax.{w64}
+use mir.Val.{Fits}
 use lib.Dec.{eqb, ltb, eqb·zero-suc, eqb·suc-zero, eqb·suc-suc, leb·suc-suc}
-use lib.ListN.{length, getD, set}
+use lib.ListN.{length, getD, set, replicate, List·getD-eq-default}
 use lib.Seq.{getD-set-same, getD-set-other}
 use borrow.Author.Tests.{eq-eqb, ne-eqb, lt-ltb, le-ltb, ltb-true, ltb-false, eqb-true, eqb-false}
 use Rattle.theory.specs.Bool.{member, imp, bit}
@@ -22,8 +24,7 @@ use Rattle.theory.specs.Bool.Laws.{by-test, not-both, is-false, and-elim, beq-t
 use Rattle.theory.specs.Below.{allBelow, firstBelow, sumBelow}
 use Rattle.theory.specs.Below.Laws.{all-elim, all-intro, all-fails, sum-front}
 use Rattle.theory.specs.Below.Scan.{at-end}
-use Rattle.theory.specs.Facts.{extend}
-use Rattle.bits.specs.Code.{singleOf, fullOf, amongOf, unionOf, withIf, withoutOf, inWords}
+use Rattle.bits.specs.Code.{singleOf, fullOf, amongOf, unionOf, withIf, withoutOf, inWords, inWord, firstWords}
 
 -- ---- The lowest digit and the others
 
@@ -321,51 +322,72 @@ pub ruleset gathering = (among-none, among-more, among-done)
 
 -- ---- Sets in an array of words
 
-same-word : (n j k x q : ℕ) → x < n → q < n → n * j + x ≡ n * k + q → (j ≡ k) × (x ≡ q)
-same-word n j k x q hx hq e =
-    let c : j * n + x ≡ k * n + q = omega arith in
-    let d : j ≡ k = sym (digits-div j hx) ∙ ap (λ (y : ℕ). y / n) c ∙ digits-div k hq in
-    (d, omega (arith, ap (λ (y : ℕ). n * y) d))
+zeros : (n i : ℕ) → getD {A = ℕ} (replicate n 0) i 0 ≡ 0
+zeros zero i = refl
+zeros (suc n) zero = refl
+zeros (suc n) (suc i) = zeros n i
 
--- Word q of set k is joined with u.
-module _ (n : ℕ) (ws : List ℕ) (k q v u : ℕ) (within : q < n) (room : n * k + q < length ws)
-    (joined : member v ≡ unionOf (getD ws (n * k + q) 0) u) where
-  join-at : (j i : ℕ) → inWords n (set ws (n * k + q) v) j i ≡ extend (inWords n ws) k (λ s. eqb (s / 64) q && member u (s % 64)) j i
-  unfolding inWords extend
-  join-at j i =
-      by-test (eqb (n * j + i / 64) (n * k + q))
-      (λ e.
-      let p = eqb-true (n * j + i / 64) (n * k + q) e in
-      by-test (ltb i (64 * n))
-      (λ l.
-      let s = same-word n j k (i / 64) q (omega (arith, ltb-true i (64 * n) l)) within p in
-      let m : member v (i % 64) ≡ member (getD ws (n * k + q) 0) (i % 64) || member u (i % 64) = ap (λ (f : ℕ → Bool). f (i % 64)) joined in
-      rw (p, getD-set-same ws (n * k + q) v 0 room, m, l, eq-eqb j k (s .0), eq-eqb (i / 64) q (s .1))
-      (or-comm (member (getD ws (n * k + q) 0) (i % 64)) (member u (i % 64))))
-      (λ l. rw (l, ne-eqb (i / 64) q (λ d. omega (arith, ltb-false i (64 * n) l)), and-false (eqb j k))))
-      (λ e.
-      let other = eqb-false (n * j + i / 64) (n * k + q) e in
-      let none : eqb j k && (eqb (i / 64) q && member u (i % 64)) ≡ false =
-      is-false _
-      (λ t.
-      let a = and-elim (eqb j k) _ t in
-      let b = and-elim (eqb (i / 64) q) _ (a .1) in
-      other (rw (eqb-true j k (a .0), eqb-true (i / 64) q (b .0)))) in
-      rw (getD-set-other ws (n * k + q) (n * j + i / 64) v 0 other, none))
+words-none : (n i : ℕ) → inWords (replicate n 0) i ≡ false
+unfolding inWords
+words-none n i = rw (zeros n (i / 64)) (member-none (i % 64))
 
-  pub words-join : inWords n (set ws (n * k + q) v) ≡ extend (inWords n ws) k (λ i. eqb (i / 64) q && member u (i % 64))
-  words-join = fun-ext (λ j. fun-ext (join-at j))
-
-one-word : (u i : ℕ) → u < 2 ^ 64 → eqb (i / 64) 0 && member u (i % 64) ≡ member u i
-one-word u i h =
+-- One word of the set.
+pub word-at : (ws : List ℕ) (q : ℕ) → Fits w64 (getD ws q 0) → member (getD ws q 0) ≡ inWord q (inWords ws)
+unfolding inWord inWords
+word-at ws q h =
+    fun-ext
+    (λ i.
     by-cases (decLt i 64)
-    (λ l. let r : i % 64 ≡ i = omega arith in rw (eq-eqb (i / 64) 0 (omega arith), r))
-    (λ g. rw (ne-eqb (i / 64) 0 (λ e. omega arith), member-above 64 u i h (omega arith)))
+    (λ l.
+    let a : (64 * q + i) / 64 ≡ q = omega arith in
+    let b : (64 * q + i) % 64 ≡ i = omega arith in
+    rw (lt-ltb i 64 l, a, b))
+    (λ g. rw (le-ltb i 64 (omega arith)) (member-above 64 (getD ws q 0) i (h .fits) (omega arith))))
 
--- The members of u join set k, where each set is one word.
-pub words-union : (ws : List ℕ) (k v u : ℕ) → k < length ws → u < 2 ^ 64 → member v ≡ unionOf (getD ws k 0) u
-    → inWords 1 (set ws k v) ≡ extend (inWords 1 ws) k (member u)
-words-union ws k v u l h joined =
-    let e : 1 * k + 0 ≡ k = omega arith in
-    let w = words-join 1 ws k 0 v u (omega arith) (omega arith) (rw e joined) in
-    (rw e at w) ∙ ap (extend (inWords 1 ws) k) (fun-ext (λ i. one-word u i h))
+pub word-past : (ws : List ℕ) (q : ℕ) → length ws ≡ 4 → 4 ≤ q → member 0 ≡ inWord q (inWords ws)
+unfolding inWord inWords
+word-past ws q n h =
+    fun-ext
+    (λ i.
+    by-cases (decLt i 64)
+    (λ l.
+    let a : length ws ≤ (64 * q + i) / 64 = omega arith in
+    rw (lt-ltb i 64 l, List·getD-eq-default ws 0 a, member-none i) (sym (member-none ((64 * q + i) % 64))))
+    (λ g. rw (le-ltb i 64 (omega arith)) (member-none i)))
+
+-- The numbers of A are gathered word by word.
+module _ (A : ℕ → Bool) where
+  pub words-start : (n : ℕ) → inWords (replicate n 0) ≡ firstWords 0 A
+  unfolding firstWords
+  words-start n = fun-ext (λ i. words-none n i ∙ sym (rw (le-ltb i 0 (omega arith))))
+
+  pub words-more : (ws : List ℕ) (q v : ℕ) → inWords ws ≡ firstWords q A → q < length ws → member v ≡ inWord q A
+      → inWords (set ws q v) ≡ firstWords (q + 1) A
+  unfolding inWords inWord firstWords
+  words-more ws q v g l e =
+      fun-ext
+      (λ i.
+      by-test (eqb (i / 64) q)
+      (λ t.
+      let d = eqb-true (i / 64) q t in
+      let a : 64 * q + i % 64 ≡ i = omega arith in
+      rw (d, getD-set-same ws q v 0 l, e, a, lt-ltb (i % 64) 64 (omega arith), lt-ltb i (64 * (q + 1)) (omega arith)))
+      (λ t.
+      let d = eqb-false (i / 64) q t in
+      rw (getD-set-other ws q (i / 64) v 0 d)
+      (ap (λ (f : ℕ → Bool). f i) g ∙ ap (λ b. b && A i) (below i d))))
+    where
+      below : (i : ℕ) → (i / 64 ≡ q → ⊥) → ltb i (64 * q) ≡ ltb i (64 * (q + 1))
+      below i d =
+          by-test (ltb i (64 * q))
+          (λ l. rw (l, lt-ltb i (64 * (q + 1)) (omega (arith, ltb-true i (64 * q) l))))
+          (λ l.
+          let m = ltb-false i (64 * q) l in
+          let n : q < i / 64 = lt-of-le-ne (omega arith) (λ e. d (sym e)) in
+          rw (l, le-ltb i (64 * (q + 1)) (omega arith)))
+
+  -- All numbers of A are below 64 q.
+  pub words-end : (ws : List ℕ) (q : ℕ) → inWords ws ≡ firstWords q A → ((i : ℕ) → 64 * q ≤ i → A i ≡ false) → inWords ws ≡ A
+  unfolding firstWords
+  words-end ws q g h =
+      g ∙ fun-ext (λ i. by-test (ltb i (64 * q)) (λ l. rw l) (λ l. rw l (sym (h i (ltb-false i (64 * q) l)))))

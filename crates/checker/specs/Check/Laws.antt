@@ -34,7 +34,7 @@ module _ (b : List ℕ) (h : Header) where
   sections-are states rules layers nodes leaves a es er el en ek e = rw (es, er, el, en, ek) at e
 
   pub rules-sound : (rules : List ℕ) → rules ≡ sectionsOf b h .rules → SoundShape b h → SoundRules (h .sizes) rules
-  rules-sound rules er sound = rw er (sound-rules (h .sizes) (sectionsOf b h) (sound .limits) (sound .sections))
+  rules-sound rules er sound = rw er (sound-rules (h .sizes) (sectionsOf b h) (sound .limits) (sound-lengths b h sound .rules) (sound .sections))
 
   pub pairs-sound : (rules : List ℕ) → rules ≡ sectionsOf b h .rules → SoundShape b h → SoundPairs (h .sizes) rules
   pairs-sound rules er sound =

@@ -11,7 +11,7 @@ use Rattle.theory.specs.Below.Scan.{scan, clear-next, first-at}
 use Rattle.theory.specs.Ladder.{handoverAt}
 use Rattle.format.specs.Format.{protocolOf, layersOf}
 use Rattle.ladder.specs.Code.{fitting, uncovered}
-use Rattle.ladder.specs.Code.Laws.{sound-pair, none-fits, one-fits, higher-covered, none-covers, covered-passes, uncovered-fails}
+use Rattle.ladder.specs.Code.Laws.{beginning, sound-pair, none-fits, one-fits, higher-covered, none-covers, covered-passes, uncovered-fails}
 use Rattle.ladder.proofs.handover_fault.Statement.{statement}
 use Rattle.ladder.proofs.handover_fault.Tie as tie
 
@@ -46,8 +46,12 @@ read-rule-requires :
     tie.Need-read-rule-requires Inv-search μ-search Inv-loop μ-loop Inv-test μ-test
 read-rule-requires c κs = search needs
 
+first-lower-requires :
+    tie.Need-first-lower-requires Inv-search μ-search Inv-loop μ-loop Inv-test μ-test
+first-lower-requires c κs = search needs
+
 loop-holds : tie.Need-loop-holds Inv-search μ-search Inv-loop μ-loop Inv-test μ-test
-loop-holds c = search (scan, needs)
+loop-holds c = search (beginning, needs)
 
 read-rule-requires-2 :
     tie.Need-read-rule-requires-2 Inv-search μ-search Inv-loop μ-loop Inv-test μ-test
@@ -66,7 +70,9 @@ states-of-requires c κs = search needs
 rule-fits-requires :
     tie.Need-rule-fits-requires Inv-search μ-search Inv-loop μ-loop Inv-test μ-test
 rule-fits-requires c κs =
-    let start = c .before .before .before .before .before .before .before .before .before .before .before .before .before .before .before .before .before .before in
+    let at-u = c .before .before .before .before .before .before .before in
+    let at-s = at-u .before .before .before .before .before in
+    let start = at-s .before .before .before .before .before .before .before in
     (sound-pair _ _ _ (start .pre) (omega arith), c .before .before .before .states-of .ensures)
 
 add-v : tie.Need-add-v Inv-search μ-search Inv-loop μ-loop Inv-test μ-test
@@ -78,7 +84,7 @@ search-less c = search needs
 search-again : tie.Need-search-again Inv-search μ-search Inv-loop μ-loop Inv-test μ-test
 search-again c =
     let at-u = c .before .before .before .before .before .before .before .before .before in
-    let at-s = at-u .before .before .before .before in
+    let at-s = at-u .before .before .before .before .before in
     let start = at-s .before .before .before .before .before .before .before in
     let none =
     none-fits (start .args .z) (start .args .states .now) (start .args .rules .now) _ _ _ _ (at-s .read-rule .ensures) (at-u .read-rule2 .ensures)
@@ -94,7 +100,7 @@ loop-less c = search needs
 loop-again : tie.Need-loop-again Inv-search μ-search Inv-loop μ-loop Inv-test μ-test
 loop-again c =
     let at-u = c .before .before in
-    let at-s = at-u .before .before .before .before in
+    let at-s = at-u .before .before .before .before .before in
     let start = at-s .before .before .before .before .before .before .before in
     let z = start .args .z in
     let states = start .args .states .now in
@@ -126,7 +132,7 @@ returns-2 : tie.Need-returns-2 Inv-search μ-search Inv-loop μ-loop Inv-test μ
 returns-2 c =
     let at-search = c .before .before in
     let at-u = at-search .before .before .before .before .before in
-    let at-s = at-u .before .before .before .before in
+    let at-s = at-u .before .before .before .before .before in
     let start = at-s .before .before .before .before .before .before .before in
     let rules = start .args .rules .now in
     let lower : at-u .read-rule2 .result .layer < at-s .read-rule .result .layer = omega arith in
@@ -148,6 +154,7 @@ handover-fault-spec =
     cast-n
     test-holds
     read-rule-requires
+    first-lower-requires
     loop-holds
     read-rule-requires-2
     pre-sequence-requires

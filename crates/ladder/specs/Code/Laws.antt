@@ -25,7 +25,7 @@ use Rattle.format.specs.declared.Sizes.{Sizes}
 use Rattle.format.specs.declared.Rule.{Rule}
 use Rattle.shape.specs.Sound.{Limits, SoundSections}
 use Rattle.ladder.specs.declared.PreSequence.{PreSequence}
-use Rattle.ladder.specs.Code.{fitting, uncovered, inPair, beyondOf, preSequenceOf, heldOf, coversOf, fitsIn, statesIn, SoundPair, SoundPairs}
+use Rattle.ladder.specs.Code.{fitting, uncovered, inPair, beyondOf, preSequenceOf, heldOf, coversOf, fitsIn, firstLower, statesIn, SoundPair, SoundPairs}
 
 -- ---- Lowering at rule r, of layer l
 
@@ -251,6 +251,28 @@ module _ (P : Protocol) (L : Layers) (s : ℕ) where
       ap not
       (is-false (handoverAt P L s)
       (λ a. not-both (all-elim (P .rules) (λ k. imp (isLower L k s) (anyBelow (P .rules) (fitting P L s k))) a u l) (not-true _ e)))
+
+-- Where the search for u begins.
+pub begins-behind : (l n : ℕ) → l ≡ 0 → n ≡ firstLower l n
+unfolding firstLower
+begins-behind l n e = rw (eq-eqb l 0 e)
+
+pub begins-first : (l n : ℕ) → 0 < l → 0 ≡ firstLower l n
+unfolding firstLower
+begins-first l n h = rw (ne-eqb l 0 (λ e. omega arith))
+
+pub begins-inside : (l n u : ℕ) → u ≡ firstLower l n → u ≤ n
+begins-inside l n u e = by-cases (decLt 0 l) (λ h. omega (arith, begins-first l n h)) (λ h. omega (arith, begins-behind l n (omega arith)))
+
+-- Rule s has been read as a. The rules before the first u are covered: there are some only where s is of layer 0.
+pub skipped-covered : (z : Sizes) (states rules : List ℕ) (s : ℕ) (a : Rule) (n u : ℕ) → a ≡ ruleOf rules s → u ≡ firstLower (a .layer) n
+    → Clear (uncovered (protocolOf z states rules) (layersOf z rules) s) u
+skipped-covered z states rules s a n u ea e k l =
+    by-cases (decLt 0 (a .layer))
+    (λ h. absurd (omega (arith, begins-first (a .layer) n h)))
+    (λ h. not-lower (protocolOf z states rules) (layersOf z rules) s k (omega (arith, ap (λ (r : Rule). r .layer) ea)))
+
+pub ruleset beginning = (begins-inside, skipped-covered)
 
 -- The rules s and u have been read as a and b.
 module _ (z : Sizes) (states rules : List ℕ) (s u : ℕ) (a b : Rule) (ea : a ≡ ruleOf rules s) (eb : b ≡ ruleOf rules u) where

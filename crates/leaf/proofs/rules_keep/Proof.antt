@@ -2,28 +2,31 @@
 use borrow.Author.Needs.{needs}
 use Rattle.leaf.proofs.rules_keep.Statement.{statement}
 use Rattle.leaf.proofs.rules_keep.Tie as tie
-use Prim.Native.Nat.{_+_, _-_}
-use Rattle.facts.specs.Code.{factsOf}
+use Prim.Native.Nat.{_-_}
+use Rattle.bits.specs.Code.{inWords}
 use Rattle.leaf.specs.Code.Laws.{KeptBelow, keeping}
 
 abbrev Inv-loop : tie.InvT-loop
-Inv-loop by facts states rules leaves z l e run r₀ r =
-    KeptBelow by z rules leaves l e (factsOf facts .unused (e + 1)) r
+Inv-loop by states rules leaves z l e run set r₀ r =
+    KeptBelow by z rules leaves l e (inWords set) r
 
 abbrev μ-loop : tie.MeasureT-loop
-μ-loop by facts states rules leaves z l e run r₀ r = z .rules - r
+μ-loop by states rules leaves z l e run set r₀ r = z .rules - r
 
 add-run : tie.Need-add-run Inv-loop μ-loop
 add-run c = search needs
 
+unused-requires : tie.Need-unused-requires Inv-loop μ-loop
+unused-requires c κs = search needs
+
 loop-holds : tie.Need-loop-holds Inv-loop μ-loop
 loop-holds c = search (keeping, needs)
 
-cast-unused : tie.Need-cast-unused Inv-loop μ-loop
-cast-unused c = search needs
+cast-word : tie.Need-cast-word Inv-loop μ-loop
+cast-word c = search needs
 
-unused-requires : tie.Need-unused-requires Inv-loop μ-loop
-unused-requires c κs = search needs
+word-requires : tie.Need-word-requires Inv-loop μ-loop
+word-requires c κs = search needs
 
 cast-lesser : tie.Need-cast-lesser Inv-loop μ-loop
 cast-lesser c = search needs
@@ -65,9 +68,10 @@ rules-keep-spec =
     Inv-loop
     μ-loop
     add-run
-    loop-holds
-    cast-unused
     unused-requires
+    loop-holds
+    cast-word
+    word-requires
     cast-lesser
     cast-lesser-2
     mul-lesser

@@ -18,12 +18,11 @@ use Rattle.theory.specs.Bool.Laws.{by-test, is-false, not-both, and-elim}
 use Rattle.theory.specs.Below.{allBelow, sumBelow}
 use Rattle.theory.specs.Below.Laws.{all-elim, all-intro, all-fails, first-is, first-lowest, first-passes}
 use Rattle.theory.specs.Facts.{Facts}
-use Rattle.bits.specs.Code.{withoutOf}
+use Rattle.bits.specs.Code.{withoutOf, inWord}
 use Rattle.format.specs.Code.{Value}
 use Rattle.format.specs.Format.{fixedOf, isInput, ruleOf, protocolOf, endWeight, weightsOf}
 use Rattle.format.specs.declared.Rule.{Rule}
 use Rattle.format.specs.declared.Sizes.{Sizes}
-use Rattle.facts.specs.Code.{inWord}
 use Rattle.share.specs.Code.{closesBy, keptBy, relatesBy, KnownAt, shareBy, ShareIs}
 use Rattle.share.specs.Code.Laws.{relates-equal, kept-is, first-breaks, second-breaks, share, share-none, by-shares}
 use Rattle.share.specs.declared.Closing.{Closing}
@@ -233,13 +232,14 @@ module _ (by : Closing) (z : Sizes) (rules leaves : List ℕ) (l e : ℕ) (A : �
   pub kept-none : KeptBelow 0
   kept-none = record { most = omega arith; below = below-none (λ k. passes k ≡ true) }
 
-  abbrev allKept : List ℕ → Bool
-  allKept states = keptBy (protocolOf z states rules) by A (endWeight z leaves l e)
+  -- The set A is that of the unused rules, U.
+  abbrev allKept : List ℕ → (ℕ → Bool) → Bool
+  allKept states U = keptBy (protocolOf z states rules) by U (endWeight z leaves l e)
 
-  pub kept-all : (states : List ℕ) (r : ℕ) → KeptBelow r → z .rules ≤ r → true ≡ allKept states
+  pub kept-all : (states : List ℕ) (U : ℕ → Bool) (r : ℕ) → A ≡ U → KeptBelow r → z .rules ≤ r → true ≡ allKept states U
   unfolding keeps weightBefore weightAfter
-  kept-all states r w h =
-      rw (kept-is (protocolOf z states rules) by A (endWeight z leaves l e)) (sym (all-intro (z .rules) _ (λ j m. w .below j (omega arith))))
+  kept-all states U r q w h =
+      rw (← q, kept-is (protocolOf z states rules) by A (endWeight z leaves l e)) (sym (all-intro (z .rules) _ (λ j m. w .below j (omega arith))))
 
   -- Word q has the rules from r on and below n, u being those in A; t says whether they pass.
   module _ (q u r n : ℕ) (t : Bool) (w : KeptBelow r) (m : r < z .rules) (d : q ≡ r / 64) (hu : member u ≡ inWord q A)
@@ -263,11 +263,11 @@ module _ (by : Closing) (z : Sizes) (rules leaves : List ℕ) (l e : ℕ) (A : �
     pub word-less : z .rules - n < z .rules - r
     word-less = omega (arith, d, hn)
 
-    pub kept-broken : (states : List ℕ) → not t ≡ true → false ≡ allKept states
+    pub kept-broken : (states : List ℕ) (U : ℕ → Bool) → A ≡ U → not t ≡ true → false ≡ allKept states U
     unfolding keeps weightBefore weightAfter
-    kept-broken states g =
+    kept-broken states U p g =
         let f = from-fault _ r n (sym s ∙ not-true t g) in
-        rw (kept-is (protocolOf z states rules) by A (endWeight z leaves l e))
+        rw (← p, kept-is (protocolOf z states rules) by A (endWeight z leaves l e))
         (sym (is-false _ (λ q. not-both (all-elim (z .rules) _ q (f .0) (omega (arith, f .2, hn))) (sym (in-word (f .0) (f .1) (f .2)) ∙ f .3))))
 
 pub ruleset keeping = (kept-none, kept-all, kept-word, word-less, kept-broken)

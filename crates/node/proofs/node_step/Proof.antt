@@ -1,6 +1,6 @@
 -- Each arm is the node of its kind; beyond kind 7 the node is bad.
-use Rattle.node.specs.Code.Laws.{kinds, kind-unknown}
 use borrow.Author.Needs.{needs}
+use Rattle.node.specs.Code.Laws.{kinds, kind-set, kind-unknown}
 use Rattle.node.proofs.node_step.Statement.{statement}
 use Rattle.node.proofs.node_step.Tie as tie
 
@@ -22,14 +22,11 @@ disabled-step-requires c κs = search needs
 split-step-requires : tie.Need-split-step-requires
 split-step-requires c κs = search needs
 
-set-step-requires : tie.Need-set-step-requires
-set-step-requires c κs = search needs
-
-set-step-requires-2 : tie.Need-set-step-requires-2
-set-step-requires-2 c κs = search needs
-
 remainder-step-requires : tie.Need-remainder-step-requires
 remainder-step-requires c κs = search needs
+
+set-step-requires : tie.Need-set-step-requires
+set-step-requires c κs = search needs
 
 judge-requires : tie.Need-judge-requires
 judge-requires c κs = search needs
@@ -53,13 +50,10 @@ returns-6 : tie.Need-returns-6
 returns-6 c = search (kinds, needs)
 
 returns-7 : tie.Need-returns-7
-returns-7 c = search (kinds, needs)
+returns-7 c = let u = c .before .before .match .rest in search (kind-set, needs)
 
 returns-8 : tie.Need-returns-8
-returns-8 c = search (kinds, needs)
-
-returns-9 : tie.Need-returns-9
-returns-9 c = let u = c .before .match .rest in search (kind-unknown, needs)
+returns-8 c = let u = c .before .before .match .rest in search (kind-unknown, needs)
 
 pub node-step-spec : {M : Type 1} → statement M
 node-step-spec =
@@ -71,9 +65,8 @@ node-step-spec =
     contradiction-step-requires
     disabled-step-requires
     split-step-requires
-    set-step-requires
-    set-step-requires-2
     remainder-step-requires
+    set-step-requires
     judge-requires
     returns
     returns-2
@@ -82,5 +75,4 @@ node-step-spec =
     returns-5
     returns-6
     returns-7
-    returns-8
-    returns-9)
+    returns-8)

@@ -20,11 +20,11 @@ subset-requires c κs = search needs
 party-if-requires-2 : tie.Need-party-if-requires-2
 party-if-requires-2 c κs = search needs
 
-mark-absent-requires : tie.Need-mark-absent-requires
-mark-absent-requires c κs = search needs
+test-in-run-requires : tie.Need-test-in-run-requires
+test-in-run-requires c κs = search needs
 
-test-set-requires : tie.Need-test-set-requires
-test-set-requires c κs = search needs
+mark-gone-requires : tie.Need-mark-gone-requires
+mark-gone-requires c κs = search needs
 
 judge-requires : tie.Need-judge-requires
 judge-requires c κs = search needs
@@ -41,7 +41,7 @@ set-step-spec =
     absent-requires
     subset-requires
     party-if-requires-2
-    mark-absent-requires
-    test-set-requires
+    test-in-run-requires
+    mark-gone-requires
     judge-requires
     returns)

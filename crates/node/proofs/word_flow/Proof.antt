@@ -1,11 +1,11 @@
 -- Of the i rules from 64 word on, those that take from the set and those that put into it are gathered.
-use borrow.Author.Needs.{needs}
-use Rattle.node.proofs.word_flow.Statement.{statement}
-use Rattle.node.proofs.word_flow.Tie as tie
 use Prim.Native.Nat.{_-_, _≤_}
+use borrow.Author.Needs.{needs}
 use Rattle.theory.specs.Bool.{member}
 use Rattle.format.specs.Format.{protocolOf}
-use Rattle.node.specs.Code.Laws.{ruleStates, FlowBelow, flows}
+use Rattle.node.specs.Code.Laws.{ruleStates, FlowBelow, flows, flow-more}
+use Rattle.node.proofs.word_flow.Statement.{statement}
+use Rattle.node.proofs.word_flow.Tie as tie
 
 abbrev Inv-loop : tie.InvT-loop
 Inv-loop states rules z set word taking₀ putting₀ i₀ taking putting i =
@@ -23,20 +23,38 @@ mul-r c = search needs
 add-r : tie.Need-add-r Inv-loop μ-loop
 add-r c = search needs
 
-read-rule-requires : tie.Need-read-rule-requires Inv-loop μ-loop
-read-rule-requires c κs = search needs
+cast-at : tie.Need-cast-at Inv-loop μ-loop
+cast-at c = search needs
 
-has-below-requires : tie.Need-has-below-requires Inv-loop μ-loop
-has-below-requires c κs = search (ruleStates, needs)
+mul-at : tie.Need-mul-at Inv-loop μ-loop
+mul-at c = search needs
 
-has-below-requires-2 : tie.Need-has-below-requires-2 Inv-loop μ-loop
-has-below-requires-2 c κs = search (ruleStates, needs)
+shared-slice-read-meets : tie.Need-shared-slice-read-meets Inv-loop μ-loop
+shared-slice-read-meets c = search needs
 
-has-below-requires-3 : tie.Need-has-below-requires-3 Inv-loop μ-loop
-has-below-requires-3 c κs = search (ruleStates, needs)
+add-meets : tie.Need-add-meets Inv-loop μ-loop
+add-meets c = search needs
 
-has-below-requires-4 : tie.Need-has-below-requires-4 Inv-loop μ-loop
-has-below-requires-4 c κs = search (ruleStates, needs)
+shared-slice-read-meets-2 : tie.Need-shared-slice-read-meets-2 Inv-loop μ-loop
+shared-slice-read-meets-2 c = search needs
+
+meets-requires : tie.Need-meets-requires Inv-loop μ-loop
+meets-requires c κs = search (ruleStates, needs)
+
+add-meets-2 : tie.Need-add-meets-2 Inv-loop μ-loop
+add-meets-2 c = search needs
+
+shared-slice-read-meets-3 : tie.Need-shared-slice-read-meets-3 Inv-loop μ-loop
+shared-slice-read-meets-3 c = search needs
+
+add-meets-3 : tie.Need-add-meets-3 Inv-loop μ-loop
+add-meets-3 c = search needs
+
+shared-slice-read-meets-4 : tie.Need-shared-slice-read-meets-4 Inv-loop μ-loop
+shared-slice-read-meets-4 c = search needs
+
+meets-requires-2 : tie.Need-meets-requires-2 Inv-loop μ-loop
+meets-requires-2 c κs = search (ruleStates, needs)
 
 cast-with-if : tie.Need-cast-with-if Inv-loop μ-loop
 cast-with-if c = search needs
@@ -57,7 +75,13 @@ loop-less : tie.Need-loop-less Inv-loop μ-loop
 loop-less c = search needs
 
 loop-again : tie.Need-loop-again Inv-loop μ-loop
-loop-again c = search (flows, needs)
+loop-again c =
+    let taking = c .before .before .before .before .before .meets .ensures in
+    let putting = c .before .before .meets2 .ensures in
+    let so-far = c .before .before .before .before .before .before .before .before .before .before .before .loop .inv in (
+      search needs,
+      flow-more _ _ _ _ _ _ _ _ _ _ (so-far .1) (search needs) taking putting (c .before .with-if .ensures) (c .with-if2 .ensures),
+    )
 
 returns : tie.Need-returns Inv-loop μ-loop
 returns c = search (flows, needs)
@@ -74,11 +98,17 @@ word-flow-spec =
     loop-holds
     mul-r
     add-r
-    read-rule-requires
-    has-below-requires
-    has-below-requires-2
-    has-below-requires-3
-    has-below-requires-4
+    cast-at
+    mul-at
+    shared-slice-read-meets
+    add-meets
+    shared-slice-read-meets-2
+    meets-requires
+    add-meets-2
+    shared-slice-read-meets-3
+    add-meets-3
+    shared-slice-read-meets-4
+    meets-requires-2
     cast-with-if
     with-if-requires
     cast-with-if-2

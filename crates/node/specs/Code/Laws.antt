@@ -7,9 +7,9 @@ use Prim.Native.Nat.{ℕ, zero, suc, _+_, _*_, _^_, _≤_, _<_}
 use native.Mathlib.Decide.{decLt}
 use native.Mathlib.Omega.{arith}
 use lib.Dec.{leb, ltb, eqb}
-use lib.ListN.{getD}
+use lib.ListN.{length, getD, set}
 use native.Mathlib.Nat.{add-suc, add-zero, lt-of-lt-of-le}
-use borrow.Author.Tests.{lt-ltb, le-ltb, ltb-true, ltb-false, leb-true, not-true, not-false}
+use borrow.Author.Tests.{lt-ltb, le-ltb, ltb-true, ltb-false, leb-true, eqb-true, eqb-false, not-true, not-false}
 use Rattle.theory.specs.Bool.{member, imp}
 use Rattle.theory.specs.Bool.Laws.{by-test, not-both, is-false, and-elim, imp-intro, imp-elim}
 use Rattle.theory.specs.Below.{allBelow}
@@ -21,29 +21,30 @@ use Rattle.theory.specs.Remainder.{remainderCloses}
 use Rattle.theory.specs.Tree as tree
 use Rattle.theory.specs.Tree.{Assumption, leaf, outputAbsent, contradiction, disabled, caseSplit, trap, siphon, remainder, bad, checked}
 use Rattle.theory.specs.Tree.{takes, puts, touches, follows, isTrap, isSiphon, within, isSet, isModulus, isRun, children, ground, byKind, node, refusalNumber}
-use Rattle.bits.specs.Code.{inWords, singleOf, fullOf, amongOf, unionOf, withIf, withoutOf, subsetOf}
+use Rattle.bits.specs.Code.{singleOf, fullOf, amongOf, unionOf, withIf, withoutOf, subsetOf, inWords, inWord, firstWords}
 use Rattle.bits.specs.Code.Laws.{member-above, member-small, all-wider, subset-states, among-none, among-more}
-use Rattle.format.specs.Format.{Sections, isOutput, ruleP, ruleQ, ruleOf, protocolOf, treeOf, weightsOf}
-use Rattle.format.specs.declared.Rule.{Rule}
+use Rattle.bits.specs.Code.Laws.{words-start, words-more, words-end}
+use Rattle.format.specs.Format.{Sections, isOutput, rulesLength, ruleP, ruleQ, protocolOf, treeOf, weightsOf}
 use Rattle.format.specs.declared.Sizes.{Sizes}
 use Rattle.shape.specs.Sound.{Limits, SoundSections}
-use Rattle.facts.specs.Code.{onlyIf, inWord, fromWord}
-use Rattle.facts.specs.Code.Laws.{within-party, within-states, MarkedBelow, marked-none, marked-more}
+use Rattle.facts.specs.Code.{isEnd, statesAt, onlyIf}
+use Rattle.facts.specs.Code.Laws.{within-party, within-ends, within-states, within-end-states}
 use Rattle.share.specs.Code.{closesBy}
 use Rattle.share.specs.declared.Closing.the-variants.{BySums, ByRemainders}
 use Rattle.node.specs.Code.{outputAt, assumedWord, assumptionOf, AimFits, nodeOf, SoundRules, rulesIn, FlowAt, breakingOf, isTrapOf}
 use Rattle.node.specs.Code.{Turn, refuse, check, judged, nodeTurn, turnAt, leafFields, runFields, stateFields, ruleFields, setFields, remainderFields}
-use Rattle.node.specs.Code.{outputGone, NamesRule, disabledChildren, NamesSet, partyIf, setGround, setChild}
+use Rattle.node.specs.Code.{outputGone, NamesRule, disabledChildren, NamesSet, partyIf, setGround, setChild, goneOf}
 use Rattle.node.specs.declared.Aim.{Aim}
 use Rattle.node.specs.declared.Flow.{Flow}
 use Rattle.node.specs.declared.Node.{Node}
 
 -- What the sound shape of a docket gives.
-pub sound-rules : (z : Sizes) (x : Sections) → Limits z → SoundSections z x → SoundRules z (x .rules)
-sound-rules z x l g =
+pub sound-rules : (z : Sizes) (x : Sections) → Limits z → length (x .rules) ≡ rulesLength z → SoundSections z x → SoundRules z (x .rules)
+sound-rules z x l e g =
     record {
       states-most = l .states-most;
       rules-most = l .rules-most;
+      whole = omega arith;
       p-lt = λ r h. lt-of-lt-of-le (g .formed .p-lt r h) (l .states-most);
       q-lt = λ r h. lt-of-lt-of-le (g .formed .q-lt r h) (l .states-most);
       p′-lt = λ r h. lt-of-lt-of-le (g .formed .p′-lt r h) (l .states-most);
@@ -147,18 +148,18 @@ module _ (S w : ℕ) (h : w < 2 ^ 64) where
 
 -- ---- Rules and a set, in words of 64 rules
 
-module _ (z : Sizes) (rules : List ℕ) (s : SoundRules z rules) (r : ℕ) (t : Rule) (e : t ≡ ruleOf rules r) (h : r < z .rules) where
-  pub p-below : t .p < 64
-  p-below = rw e (s .p-lt r h)
+module _ (z : Sizes) (rules : List ℕ) (s : SoundRules z rules) (r : ℕ) (h : r < z .rules) where
+  pub p-below : getD rules (5 * r) 0 < 64
+  p-below = s .p-lt r h
 
-  pub q-below : t .q < 64
-  q-below = rw e (s .q-lt r h)
+  pub q-below : getD rules (5 * r + 1) 0 < 64
+  q-below = s .q-lt r h
 
-  pub p′-below : t .p2 < 64
-  p′-below = rw e (s .p′-lt r h)
+  pub p′-below : getD rules (5 * r + 2) 0 < 64
+  p′-below = s .p′-lt r h
 
-  pub q′-below : t .q2 < 64
-  q′-below = rw e (s .q′-lt r h)
+  pub q′-below : getD rules (5 * r + 3) 0 < 64
+  q′-below = s .q′-lt r h
 
 pub ruleset ruleStates = (p-below, q-below, p′-below, q′-below)
 
@@ -201,18 +202,15 @@ module _ (P : Protocol) (A : ℕ → Bool) (q : ℕ) where
   flow-past i x y g l =
       record { taking = gathered-past P (takes P A) q i x (g .taking-is) l; putting = gathered-past P (puts P A) q i y (g .putting-is) l }
 
--- A turn reads rule t; a, b, c and d are the tests of its states.
-pub flow-more : (z : Sizes) (states rules : List ℕ) (A : ℕ → Bool) (q i x y v w : ℕ) (t : Rule) (a b c d : Bool)
-    → FlowBelow (protocolOf z states rules) A q i x y → 64 * q + i < z .rules → t ≡ ruleOf rules (64 * q + i)
-    → a ≡ A (t .p) → b ≡ A (t .q) → c ≡ A (t .p2) → d ≡ A (t .q2) → member v ≡ withIf (a || b) i x → member w ≡ withIf (c || d) i y
-    → FlowBelow (protocolOf z states rules) A q (i + 1) v w
-unfolding takes puts
-flow-more z states rules A q i x y v w t a b c d g l e ha hb hc hd hv hw =
-    let P = protocolOf z states rules in
-    record {
-      taking-is = gathered-more P (takes P A) q i x v (a || b) (g .taking-is) l (rw (ha, hb, e)) hv;
-      putting-is = gathered-more P (puts P A) q i y w (c || d) (g .putting-is) l (rw (hc, hd, e)) hw;
-    }
+  -- A turn tests the pairs of rule 64 q + i.
+  pub flow-more : (i x y v w : ℕ) (t u : Bool) → FlowBelow P A q i x y → 64 * q + i < P .rules → t ≡ A (P .p (64 * q + i)) || A (P .q (64 * q + i))
+      → u ≡ A (P .p′ (64 * q + i)) || A (P .q′ (64 * q + i)) → member v ≡ withIf t i x → member w ≡ withIf u i y → FlowBelow P A q (i + 1) v w
+  unfolding takes puts
+  flow-more i x y v w t u g l ht hu hv hw =
+      record {
+        taking-is = gathered-more P (takes P A) q i x v t (g .taking-is) l ht hv;
+        putting-is = gathered-more P (puts P A) q i y w u (g .putting-is) l hu hw;
+      }
 
 pub ruleset flows = (flow-none, flow-end, flow-past, flow-more)
 
@@ -291,6 +289,11 @@ module _ (reversed : Bool) (P : Protocol) (unused A : ℕ → Bool) where
       ∙ all-same (P .rules) _ _ (λ r m. rw (lt-ltb r (P .rules) m))
       ∙ sym trap-is
 
+-- The unused rules are those of the set U.
+pub trap-of : (reversed : Bool) (P : Protocol) (unused U A : ℕ → Bool) (t : Bool) → unused ≡ U → t ≡ isTrapOf reversed P unused A
+    → t ≡ isTrapOf reversed P U A
+trap-of reversed P unused U A t e d = d ∙ ap (λ (B : ℕ → Bool). isTrapOf reversed P B A) e
+
 pub ruleset preserved = (preserved-none, preserved-more, preserved-end)
 
 both-flows : (h l t p : Bool) → (h && (l && t)) || (h && (l && p)) ≡ h && (l && (t || p))
@@ -298,32 +301,28 @@ both-flows true true t p = refl
 both-flows true false t p = refl
 both-flows false l t p = refl
 
-module _ (P : Protocol) (F G : Facts) (k : ℕ) (A : ℕ → Bool) (q : ℕ) (marked : MarkedBelow F k (touches P A) q G) where
-  pub touched-more : (H : Facts) (f : Flow) (w : ℕ) → P .rules ≤ 256 → 64 * q < P .rules → FlowAt P A q f
-      → member w ≡ unionOf (f .taking) (f .putting) → H ≡ withUnused G k (onlyIf (ltb k 3 && ltb q 4) (fromWord q (member w)))
-      → MarkedBelow F k (touches P A) (q + 1) H
+module _ (P : Protocol) (A : ℕ → Bool) (ws : List ℕ) (q : ℕ) (below : inWords ws ≡ firstWords q (touches P A)) where
+  pub touching-more : (f : Flow) (w : ℕ) → length ws ≡ 4 → q < 4 → FlowAt P A q f → member w ≡ unionOf (f .taking) (f .putting)
+      → inWords (set ws q w) ≡ firstWords (q + 1) (touches P A)
   unfolding touches inWord rulesIn
-  touched-more H f w b l e d =
-      marked-more F k (touches P A) G H q w (omega arith) marked
+  touching-more f w n l e d =
+      words-more (touches P A) ws q w below (omega arith)
       (d ∙ fun-ext (λ i. rw (e .taking, e .putting) (both-flows (ltb i 64) (ltb (64 * q + i) (P .rules)) _ _)))
 
-  pub touched-end : P .rules ≤ 64 * q → G ≡ withUnused F k (onlyIf (ltb k 3) (touches P A))
+  pub touching-end : P .rules ≤ 64 * q → inWords ws ≡ touches P A
   unfolding touches
-  touched-end l =
-      marked
-      ∙ ap (λ (B : ℕ → Bool). withUnused F k (onlyIf (ltb k 3) B))
-      (fun-ext
-      (λ r.
-      by-test (ltb r (P .rules))
-      (λ e. rw (e, lt-ltb r (64 * q) (omega (arith, ltb-true r (P .rules) e))))
-      (λ e. rw (e, and-false (ltb r (64 * q))))))
+  touching-end l = words-end (touches P A) ws q below (λ r m. rw (le-ltb r (P .rules) (omega arith)))
 
-pub ruleset touched = (marked-none, touched-more, touched-end)
+pub ruleset touched = (words-start, touching-more, touching-end)
 
 -- ---- The kinds
 
 -- What good fields say of the party, the argument and the set, where there are at most two runs.
 module _ (z : Sizes) (runs : ℕ) (n : Node) (few : runs ≤ 2) where
+  run-least : (a b : Bool) → ((leb 1 (n .party) && leb (n .party) runs) && a) && b ≡ true → 1 ≤ n .party
+  run-least a b e =
+      leb-true 1 (n .party) (and-elim (leb 1 (n .party)) (leb (n .party) runs) (and-elim (leb 1 (n .party) && leb (n .party) runs) a (and-elim _ b e .0) .0) .0)
+
   run-party : (a b : Bool) → ((leb 1 (n .party) && leb (n .party) runs) && a) && b ≡ true → n .party < 3
   run-party a b e =
       let t = and-elim (leb 1 (n .party)) (leb (n .party) runs) (and-elim (leb 1 (n .party) && leb (n .party) runs) a (and-elim _ b e .0) .0) in
@@ -340,6 +339,7 @@ module _ (z : Sizes) (runs : ℕ) (n : Node) (few : runs ≤ 2) where
   names-rule rules s =
       record {
         is = refl;
+        party-least = run-least (ltb (n .argument) (z .rules)) (eqb (n .set) 0);
         party-lt = run-party (ltb (n .argument) (z .rules)) (eqb (n .set) 0);
         p-lt = λ e. s .p-lt (n .argument) (argument e);
         q-lt = λ e. s .q-lt (n .argument) (argument e);
@@ -354,6 +354,7 @@ module _ (z : Sizes) (runs : ℕ) (n : Node) (few : runs ≤ 2) where
   names-set t l e =
       record {
         is = rw e;
+        party-least = run-least (eqb (n .argument) 0) t;
         party-lt = run-party (eqb (n .argument) 0) t;
         set-lt = λ d.
             let u : t ≡ true = and-elim ((leb 1 (n .party) && leb (n .party) runs) && eqb (n .argument) 0) t d .1 in
@@ -389,15 +390,15 @@ module _ (z : Sizes) (n : Node) (F : Facts) (x : Turn) where
 
   -- Kind 2.
   pub contradiction-turn : (b : Bool) (ps qs : List ℕ) (u v : ℕ) (t o : Bool) → t ≡ member u (n .argument) → o ≡ member v (n .argument)
-      → member u ≡ inWords 1 ps (n .party) → member v ≡ inWords 1 qs (n .party) → x ≡ judged b (t && o) []
-      → x ≡ judged b (inWords 1 ps (n .party) (n .argument) && inWords 1 qs (n .party) (n .argument)) []
+      → member u ≡ statesAt ps (n .party) → member v ≡ statesAt qs (n .party) → x ≡ judged b (t && o) []
+      → x ≡ judged b (statesAt ps (n .party) (n .argument) && statesAt qs (n .party) (n .argument)) []
   contradiction-turn b ps qs u v t o h k e d g = g ∙ rw (h, k, e, d)
 
   -- Kind 3, where the before pair of the rule is p, q, and o says whether the fields are good.
   module _ (runs : ℕ) (rules : List ℕ) (o : Bool) (s : NamesRule z rules runs n o) (p q : ℕ) (ep : p ≡ ruleP rules (n .argument))
       (eq : q ≡ ruleQ rules (n .argument)) where
     pub disabled-same : (u : ℕ) (G : Facts) → eqb p q ≡ true → member u ≡ singleOf p
-        → G ≡ withAtMostOne F (n .party) (onlyIf (ltb (n .party) 3) (member u))
+        → G ≡ withAtMostOne F (n .party) (onlyIf (isEnd (n .party)) (member u))
         → x ≡ judged o true (G ∷ [])
         → x ≡ judged (ruleFields z runs n) true (disabledChildren F (n .party) (ruleP rules (n .argument)) (ruleQ rules (n .argument)))
     unfolding disabledChildren
@@ -406,7 +407,7 @@ module _ (z : Sizes) (n : Node) (F : Facts) (x : Turn) where
         (judged-when o true true x _ _
         (λ b.
         let l : p < 64 = rw (← ep) at (s .p-lt b) in
-        (refl, rw (← ep, ← eq, t, disabledChildren, g, within-states (n .party) p u (s .party-lt b) l e, ep))))
+        (refl, rw (← ep, ← eq, t, disabledChildren, g, within-end-states (n .party) p u (s .party-least b) (s .party-lt b) l e, ep))))
 
     pub disabled-other : (u v : ℕ) (G H : Facts) → eqb p q ≡ false → member u ≡ singleOf p → member v ≡ singleOf q
         → G ≡ withAbsent F (n .party) (onlyIf (ltb (n .party) 3) (member u)) → H ≡ withAbsent F (n .party) (onlyIf (ltb (n .party) 3) (member v))
@@ -434,16 +435,15 @@ module _ (z : Sizes) (n : Node) (F : Facts) (x : Turn) where
       (refl, rw (g, h, within-states (n .party) (n .argument) u (state-party z runs n few b) (omega arith) e)))
 
   -- Kinds 5 and 6. The tests of the code are o (the fields), t (absent) and j (a trap).
-  pub set-turn : (runs : ℕ) (states rules : List ℕ) (reversed : Bool) (from to a : ℕ) (o t j : Bool) (G H : Facts)
+  pub set-turn : (runs : ℕ) (states rules : List ℕ) (reversed : Bool) (from to a : ℕ) (o t j : Bool) (H : Facts) (ws : List ℕ)
       → NamesSet z runs n o → from ≡ partyIf (not reversed) (n .party) → to ≡ partyIf reversed (n .party)
       → t ≡ subsetOf (n .set) a → member a ≡ F .absent from
       → j ≡ isTrapOf reversed (protocolOf z states rules) (F .unused (n .party)) (member (n .set))
-      → G ≡ withAbsent F to (onlyIf (ltb to 3) (member (n .set)))
-      → H ≡ withUnused G (n .party) (onlyIf (ltb (n .party) 3) (touches (protocolOf z states rules) (member (n .set))))
+      → inWords ws ≡ touches (protocolOf z states rules) (member (n .set)) → H ≡ goneOf F to (n .set) (n .party) ws
       → x ≡ judged o (t && j) (H ∷ [])
       → x ≡ judged (setFields z runs n) (setGround reversed (protocolOf z states rules) F n) (setChild reversed (protocolOf z states rules) F n ∷ [])
-  unfolding setGround setChild within
-  set-turn runs states rules reversed from to a o t j G H s ef et h d k g m y =
+  unfolding setGround setChild within goneOf
+  set-turn runs states rules reversed from to a o t j H ws s ef et h d k w m y =
       rw (← s .is)
       (judged-when o (t && j) _ x _ _
       (λ b.
@@ -452,9 +452,14 @@ module _ (z : Sizes) (n : Node) (F : Facts) (x : Turn) where
       h ∙ rw d (subset-states 64 (z .states) (n .set) (F .absent from) (s .states-most) (s .set-lt b)) in
       let l : to < 3 = rw et (party-lt reversed (n .party) 3 (omega arith) r) in (
         rw (same, k, ef),
-        rw (m, g, within-party to (member (n .set)) l, within-party (n .party) (touches (protocolOf z states rules) (member (n .set))) r, et),
+        rw (m, within-party to (member (n .set)) l, w, within-ends (n .party) (touches (protocolOf z states rules) (member (n .set))) (s .party-least b) r, et),
       ))
       y)
+
+pub gone-is : (F G H : Facts) (k w j : ℕ) (ws : List ℕ) → G ≡ withAbsent F k (onlyIf (ltb k 3) (member w))
+    → H ≡ withUnused G j (onlyIf (isEnd j) (inWords ws)) → H ≡ goneOf F k w j ws
+unfolding goneOf
+gone-is F G H k w j ws e d = rw d (rw e)
 
 -- ---- Node i
 
@@ -510,11 +515,11 @@ module _ (z : Sizes) (states rules nodes leaves : List ℕ) (aim : Aim) (F : Fac
   unfolding byKind ground children refusalNumber
   kind-split k d = by-kind 4 k (d ∙ turn-checked P H F _ (caseSplit (n .party) (n .argument)) refl)
 
-  pub kind-trap : n .kind ≡ 5 → x ≡ judged (setFields z (aim .runs) n) (setGround false P F n) (setChild false P F n ∷ []) → x ≡ here
+  kind-trap : n .kind ≡ 5 → x ≡ judged (setFields z (aim .runs) n) (setGround false P F n) (setChild false P F n ∷ []) → x ≡ here
   unfolding byKind isRun isSet ground children refusalNumber setGround setChild partyIf isTrapOf
   kind-trap k d = by-kind 5 k (d ∙ turn-checked P H F _ (trap (n .party) (n .set)) refl)
 
-  pub kind-siphon : n .kind ≡ 6 → x ≡ judged (setFields z (aim .runs) n) (setGround true P F n) (setChild true P F n ∷ []) → x ≡ here
+  kind-siphon : n .kind ≡ 6 → x ≡ judged (setFields z (aim .runs) n) (setGround true P F n) (setChild true P F n ∷ []) → x ≡ here
   unfolding byKind isRun isSet ground children refusalNumber setGround setChild partyIf isTrapOf
   kind-siphon k d = by-kind 6 k (d ∙ turn-checked P H F _ (siphon (n .party) (n .set)) refl)
 
@@ -523,21 +528,39 @@ module _ (z : Sizes) (states rules nodes leaves : List ℕ) (aim : Aim) (F : Fac
   unfolding byKind isModulus ground children refusalNumber
   kind-remainder k d = by-kind 7 k (d ∙ turn-checked P H F _ (remainder (n .argument) (n .set)) refl)
 
-  pub kind-unknown : (n .kind ≡ 0 → ⊥) → (n .kind ≡ 1 → ⊥) → (n .kind ≡ 2 → ⊥) → (n .kind ≡ 3 → ⊥) → (n .kind ≡ 4 → ⊥) → (n .kind ≡ 5 → ⊥)
-      → (n .kind ≡ 6 → ⊥) → (n .kind ≡ 7 → ⊥) → x ≡ judged false true [] → x ≡ here
-  unfolding byKind nodeTurn ground refusalNumber check
-  kind-unknown k0 k1 k2 k3 k4 k5 k6 k7 d = by-kind (n .kind) refl (d ∙ ap (nodeTurn P H F) (sym (past (n .kind) k0 k1 k2 k3 k4 k5 k6 k7)))
+  -- Kinds 5 and 6: below 7 and none of the kinds before them.
+  pub kind-set : (reversed : Bool) → reversed ≡ eqb (n .kind) 6 → n .kind < 7 → (n .kind ≡ 0 → ⊥) → (n .kind ≡ 1 → ⊥) → (n .kind ≡ 2 → ⊥)
+      → (n .kind ≡ 3 → ⊥) → (n .kind ≡ 4 → ⊥)
+      → x ≡ judged (setFields z (aim .runs) n) (setGround reversed P F n) (setChild reversed P F n ∷ []) → x ≡ here
+  kind-set reversed r l k0 k1 k2 k3 k4 d =
+      by-test (eqb (n .kind) 6)
+      (λ t. kind-siphon (eqb-true (n .kind) 6 t) (rw (r ∙ t) at d))
+      (λ t. kind-trap (five (n .kind) l k0 k1 k2 k3 k4 (eqb-false (n .kind) 6 t)) (rw (r ∙ t) at d))
     where
-      past : (k : ℕ) → (k ≡ 0 → ⊥) → (k ≡ 1 → ⊥) → (k ≡ 2 → ⊥) → (k ≡ 3 → ⊥) → (k ≡ 4 → ⊥) → (k ≡ 5 → ⊥) → (k ≡ 6 → ⊥) → (k ≡ 7 → ⊥)
-          → of-kind n k ≡ bad
-      past zero z0 z1 z2 z3 z4 z5 z6 z7 = absurd (z0 refl)
-      past (suc zero) z0 z1 z2 z3 z4 z5 z6 z7 = absurd (z1 refl)
-      past (suc (suc zero)) z0 z1 z2 z3 z4 z5 z6 z7 = absurd (z2 refl)
-      past (suc (suc (suc zero))) z0 z1 z2 z3 z4 z5 z6 z7 = absurd (z3 refl)
-      past (suc (suc (suc (suc zero)))) z0 z1 z2 z3 z4 z5 z6 z7 = absurd (z4 refl)
-      past (suc (suc (suc (suc (suc zero))))) z0 z1 z2 z3 z4 z5 z6 z7 = absurd (z5 refl)
-      past (suc (suc (suc (suc (suc (suc zero)))))) z0 z1 z2 z3 z4 z5 z6 z7 = absurd (z6 refl)
-      past (suc (suc (suc (suc (suc (suc (suc zero))))))) z0 z1 z2 z3 z4 z5 z6 z7 = absurd (z7 refl)
-      past (suc (suc (suc (suc (suc (suc (suc (suc k)))))))) z0 z1 z2 z3 z4 z5 z6 z7 = refl
+      five : (k : ℕ) → k < 7 → (k ≡ 0 → ⊥) → (k ≡ 1 → ⊥) → (k ≡ 2 → ⊥) → (k ≡ 3 → ⊥) → (k ≡ 4 → ⊥) → (k ≡ 6 → ⊥) → k ≡ 5
+      five zero h z0 z1 z2 z3 z4 z6 = absurd (z0 refl)
+      five (suc zero) h z0 z1 z2 z3 z4 z6 = absurd (z1 refl)
+      five (suc (suc zero)) h z0 z1 z2 z3 z4 z6 = absurd (z2 refl)
+      five (suc (suc (suc zero))) h z0 z1 z2 z3 z4 z6 = absurd (z3 refl)
+      five (suc (suc (suc (suc zero)))) h z0 z1 z2 z3 z4 z6 = absurd (z4 refl)
+      five (suc (suc (suc (suc (suc zero))))) h z0 z1 z2 z3 z4 z6 = refl
+      five (suc (suc (suc (suc (suc (suc zero)))))) h z0 z1 z2 z3 z4 z6 = absurd (z6 refl)
+      five (suc (suc (suc (suc (suc (suc (suc k))))))) h z0 z1 z2 z3 z4 z6 = absurd (omega arith)
 
-pub ruleset kinds = (kind-leaf, kind-output, kind-contradiction, kind-disabled, kind-split, kind-trap, kind-siphon, kind-remainder)
+  -- Behind kind 7.
+  pub kind-unknown : 7 ≤ n .kind → (n .kind ≡ 7 → ⊥) → x ≡ judged false true [] → x ≡ here
+  unfolding byKind nodeTurn ground refusalNumber check
+  kind-unknown l k d = by-kind (n .kind) refl (d ∙ ap (nodeTurn P H F) (sym (past (n .kind) l k)))
+    where
+      past : (k : ℕ) → 7 ≤ k → (k ≡ 7 → ⊥) → of-kind n k ≡ bad
+      past zero h z = absurd (omega arith)
+      past (suc zero) h z = absurd (omega arith)
+      past (suc (suc zero)) h z = absurd (omega arith)
+      past (suc (suc (suc zero))) h z = absurd (omega arith)
+      past (suc (suc (suc (suc zero)))) h z = absurd (omega arith)
+      past (suc (suc (suc (suc (suc zero))))) h z = absurd (omega arith)
+      past (suc (suc (suc (suc (suc (suc zero)))))) h z = absurd (omega arith)
+      past (suc (suc (suc (suc (suc (suc (suc zero))))))) h z = absurd (z refl)
+      past (suc (suc (suc (suc (suc (suc (suc (suc k)))))))) h z = refl
+
+pub ruleset kinds = (kind-leaf, kind-output, kind-contradiction, kind-disabled, kind-split, kind-remainder)

@@ -10,6 +10,9 @@ root-facts-requires c κs = search needs
 descend-requires : tie.Need-descend-requires
 descend-requires c κs = search needs
 
+walk-of-requires : tie.Need-walk-of-requires
+walk-of-requires c κs = search needs
+
 enum-known-end : tie.Need-enum-known-end
 enum-known-end c = search needs
 
@@ -34,6 +37,7 @@ walk-tree-spec =
     (tie.spec
     root-facts-requires
     descend-requires
+    walk-of-requires
     enum-known-end
     enum-told
     returns

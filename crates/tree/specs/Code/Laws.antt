@@ -2,7 +2,7 @@
 use mathlib.Core.Path.{_≡_, refl, sym, ap, _∙_, fun-ext}
 use mathlib.Core.Bool.{Bool, true, false, not, cond, _&&_, _||_}
 use mathlib.Core.List.{List, [], _∷_}
-use Prim.Native.Nat.{ℕ, zero, suc, _+_, _-_, _≤_, _<_, max}
+use Prim.Native.Nat.{ℕ, zero, suc, _+_, _-_, _*_, _/_, _%_, _≤_, _<_, max}
 use native.Mathlib.Numerals.{add-one}
 use native.Mathlib.Omega.{arith}
 use lib.Dec.{eqb, ltb}
@@ -12,7 +12,9 @@ use Rattle.theory.specs.Bool.Laws.{by-test}
 use Rattle.theory.specs.Below.Scan.{at-end}
 use Rattle.theory.specs.Protocol.{Protocol}
 use Rattle.theory.specs.Facts.{Facts, fresh}
-use Rattle.theory.specs.Tree.{Tree, Assumption, Walked, next, refused, forest, ground, assuming, disagreement, node, treeAt, treeAnswer}
+use Rattle.theory.specs.Tree.{Tree, Assumption, Walked, next, refused, forest, refusalNumber, ground, children, assuming, disagreement}
+use Rattle.theory.specs.Tree.{node, treeAt, treeAnswer}
+use Rattle.theory.specs.Tree.{Node, leaf, outputAbsent, contradiction, disabled, caseSplit, trap, siphon, remainder, bad}
 use Rattle.theory.specs.Tree.{setSize, widestBelow, widest}
 use Rattle.bits.specs.Code.{fullOf, amongOf, withoutOf}
 use Rattle.format.specs.Format.{isInput, isOutput, fixedOf, nodeKind, nodeSet, protocolOf, treeOf, weightsOf}
@@ -25,7 +27,7 @@ use Rattle.node.specs.declared.Aim.{Aim}
 use Rattle.node.specs.declared.Outcome.{Outcome}
 use Rattle.node.specs.declared.Outcome.the-variants.{Refused as Failed, Closed, Child, Children}
 use Rattle.node.specs.declared.Step.{Step}
-use Rattle.tree.specs.Code.{walkedOf, Disagrees, setSizeAt}
+use Rattle.tree.specs.Code.{walkedOf, walkedIn, Disagrees, setSizeAt}
 use Rattle.tree.specs.declared.Walk.{Walk}
 use Rattle.tree.specs.declared.Walk.the-variants.{Next, Refused}
 
@@ -64,62 +66,131 @@ module _ (P : Protocol) (H : Assumption) (T : Tree) (F : Facts) (i : ℕ) where
       (λ g. rw (lt-ltb i (T .nodes) l, treeAt, g))
       (λ g. rw (lt-ltb i (T .nodes) l, treeAt, g))
 
-  pub walk-deep : (d : ℕ) (w : Walk) → d < 1 → walkedOf w ≡ refused 12 i → walkedOf w ≡ treeAt P H T d F i
-  unfolding treeAt
-  walk-deep zero w h e = e
-  walk-deep (suc d) w h e = absurd (omega arith)
+-- A node is refused with 12 or 13.
+unfoldable number-of : Turn → ℕ
+number-of (refuse n) = n
+number-of (proceed Fs) = 12
 
-  pub walk-past : (d : ℕ) (w : Walk) → 1 ≤ d → T .nodes ≤ i → walkedOf w ≡ refused 12 (T .nodes) → walkedOf w ≡ treeAt P H T d F i
+either : (m : Node) → (12 ≤ refusalNumber m) × (refusalNumber m ≤ 13)
+unfolding refusalNumber
+either (leaf l) = (omega arith, omega arith)
+either (outputAbsent k) = (omega arith, omega arith)
+either (contradiction k t) = (omega arith, omega arith)
+either (disabled k r) = (omega arith, omega arith)
+either (caseSplit k t) = (omega arith, omega arith)
+either (trap k w) = (omega arith, omega arith)
+either (siphon k w) = (omega arith, omega arith)
+either (remainder l w) = (omega arith, omega arith)
+either bad = (omega arith, omega arith)
+
+turn-number : (P : Protocol) (H : Assumption) (F : Facts) (m : Node) (n : ℕ) → nodeTurn P H F m ≡ refuse n → (12 ≤ n) × (n ≤ 13)
+unfolding nodeTurn check number-of
+turn-number P H F m n t = go (ground P H F m) t
+  where
+    go : (b : Bool) → check b (refusalNumber m) (proceed (children P F m)) ≡ refuse n → (12 ≤ n) × (n ≤ 13)
+    go true u = let e : 12 ≡ n = ap number-of u in (omega arith, omega arith)
+    go false u = let e : refusalNumber m ≡ n = ap number-of u in let r = either m in (omega arith, omega arith)
+
+-- ---- The walk's answer as one number
+
+module _ (c : ℕ) where
+  pub code-next : c < 65536 → walkedIn c ≡ next c
+  unfolding walkedIn
+  code-next l = rw (lt-ltb c 65536 l)
+
+  pub code-refused : 65536 ≤ c → walkedIn c ≡ refused (c / 65536) (c % 65536)
+  unfolding walkedIn
+  code-refused l = rw (le-ltb c 65536 l)
+
+pub code-of : (n i : ℕ) → 1 ≤ n → i < 65536 → walkedIn (n * 65536 + i) ≡ refused n i
+code-of n i h l =
+    let d : (n * 65536 + i) / 65536 ≡ n = omega arith in
+    let m : (n * 65536 + i) % 65536 ≡ i = omega arith in
+    code-refused (n * 65536 + i) (omega arith) ∙ rw (d, m)
+
+pub next-is : (c : ℕ) → c < 65536 → next c ≡ walkedIn c
+next-is c l = sym (code-next c l)
+
+pub refused-is : (c : ℕ) (w : Walk) → 65536 ≤ c → walkedOf w ≡ refused (c / 65536) (c % 65536) → walkedOf w ≡ walkedIn c
+refused-is c w l e = e ∙ sym (code-refused c l)
+
+pub ruleset codes = (code-of, next-is, refused-is)
+
+-- ---- A turn of the walk, which is to come to W
+
+module _ (P : Protocol) (H : Assumption) (T : Tree) (d : ℕ) (F : Facts) (i : ℕ) (W : Walked) (so-far : treeAt P H T d F i ≡ W) (c : ℕ) where
+  pub walk-deep : d ≤ 0 → walkedIn c ≡ refused 12 i → walkedIn c ≡ W
   unfolding treeAt
-  walk-past zero w h l e = absurd (omega arith)
-  walk-past (suc d) w h l e = rw (le-ltb i (T .nodes) l, treeAt) e
+  walk-deep h e = e ∙ sym (deep d h) ∙ so-far
+    where
+      deep : (k : ℕ) → k ≤ 0 → treeAt P H T k F i ≡ refused 12 i
+      deep zero m = refl
+      deep (suc k) m = absurd (omega arith)
+
+  pub walk-past : 0 < d → T .nodes ≤ i → walkedIn c ≡ refused 12 (T .nodes) → walkedIn c ≡ W
+  unfolding treeAt
+  walk-past h l e = e ∙ sym (past d h) ∙ so-far
+    where
+      past : (k : ℕ) → 0 < k → treeAt P H T k F i ≡ refused 12 (T .nodes)
+      past zero m = absurd (omega arith)
+      past (suc k) m = rw (le-ltb i (T .nodes) l, treeAt)
 
 -- The step s is that of node i.
-module _ (z : Sizes) (states rules nodes leaves : List ℕ) (aim : Aim) (d : ℕ) (F : Facts) (i : ℕ) (s : Step) (h : 1 ≤ d) (l : i < z .nodes)
+module _ (z : Sizes) (states rules nodes leaves : List ℕ) (aim : Aim) (d : ℕ) (F : Facts) (i : ℕ) (s : Step) (h : 0 < d) (l : i < z .nodes)
     (e : turnOfStep s ≡ turnAt z states rules nodes leaves aim F i) where
   abbrev walk : ℕ → Facts → ℕ → Walked
   walk = let P = protocolOf z states rules in treeAt P (assumptionOf P (weightsOf z leaves) aim) (treeOf z nodes)
 
-  abbrev here : Walked
-  here = walk d F i
-
   abbrev below : Facts → ℕ → Walked
   below = walk (d - 1)
 
-  came : (o : Outcome) → s .outcome ≡ o → follow below i (turnOfOutcome o (factsOf (s .first)) (factsOf (s .second))) ≡ here
+  number : (n : ℕ) → s .outcome ≡ Failed n → (12 ≤ n) × (n ≤ 13)
   unfolding turnAt
-  came o q = sym (go d h ∙ ap (λ (x : Outcome). follow below i (turnOfOutcome x (factsOf (s .first)) (factsOf (s .second)))) q)
+  number n q = numbers (sym (ap (λ (o : Outcome). turnOfOutcome o (factsOf (s .first)) (factsOf (s .second))) q) ∙ e)
     where
-      go : (k : ℕ) → 1 ≤ k → walk k F i ≡ follow (walk (k - 1)) i (turnOfStep s)
-      go zero m = absurd (omega arith)
-      go (suc k) m = let q : suc k - 1 ≡ k = omega arith in rw (q, e) (at-node _ _ (treeOf z nodes) F i k l)
+      numbers : refuse n ≡ turnAt z states rules nodes leaves aim F i → (12 ≤ n) × (n ≤ 13)
+      numbers t = turn-number _ _ F _ n (sym t)
 
-  pub step-refused : (w : Walk) (n : ℕ) → s .outcome ≡ Failed n → walkedOf w ≡ refused n i → walkedOf w ≡ here
-  step-refused w n q a = a ∙ came (Failed n) q
+  pub number-small : (n : ℕ) → s .outcome ≡ Failed n → n < 65536
+  number-small n q = omega (arith, number n q)
 
-  pub step-closed : s .outcome ≡ Closed → next (i + 1) ≡ here
-  unfolding forest
-  step-closed q = rw add-one (came Closed q)
+  pub number-some : (n : ℕ) → s .outcome ≡ Failed n → 1 ≤ n
+  number-some n q = omega (arith, number n q)
 
-  pub step-child : (w : Walk) → s .outcome ≡ Child → walkedOf w ≡ below (factsOf (s .first)) (i + 1) → walkedOf w ≡ here
-  step-child w q a = a ∙ rw add-one (sym (forest-one below (factsOf (s .first)) (suc i)) ∙ came Child q)
+  module _ (W : Walked) (so-far : walk d F i ≡ W) where
+    came : (o : Outcome) → s .outcome ≡ o → follow below i (turnOfOutcome o (factsOf (s .first)) (factsOf (s .second))) ≡ W
+    unfolding turnAt
+    came o q = sym (go d h ∙ ap (λ (x : Outcome). follow below i (turnOfOutcome x (factsOf (s .first)) (factsOf (s .second)))) q) ∙ so-far
+      where
+        go : (k : ℕ) → 0 < k → walk k F i ≡ follow (walk (k - 1)) i (turnOfStep s)
+        go zero m = absurd (omega arith)
+        go (suc k) m = let q : suc k - 1 ≡ k = omega arith in rw (q, e) (at-node _ _ (treeOf z nodes) F i k l)
 
-  -- Two children: the first is refused, or it ends at node j.
-  module _ (w : Walk) (q : s .outcome ≡ Children) (a : walkedOf w ≡ below (factsOf (s .first)) (i + 1)) where
-    pub step-stopped : (r : Refusal) → w ≡ Refused r → walkedOf w ≡ here
-    step-stopped r f =
-        let e : below (factsOf (s .first)) (suc i) ≡ refused (r .number) (r .place) = sym (rw add-one at a) ∙ ap walkedOf f in
-        ap walkedOf f ∙ sym (forest-stops below (factsOf (s .first)) (factsOf (s .second) ∷ []) (suc i) _ _ e) ∙ came Children q
+    pub step-refused : (c n : ℕ) → s .outcome ≡ Failed n → walkedIn c ≡ refused n i → walkedIn c ≡ W
+    step-refused c n q a = a ∙ came (Failed n) q
 
-    pub step-second : (x : Walk) (j : ℕ) → w ≡ Next j → walkedOf x ≡ below (factsOf (s .second)) j → walkedOf x ≡ here
-    step-second x j f b =
-        let e : below (factsOf (s .first)) (suc i) ≡ next j = sym (rw add-one at a) ∙ ap walkedOf f in
-        b
-        ∙ sym (forest-one below (factsOf (s .second)) j)
-        ∙ sym (forest-goes below (factsOf (s .first)) (factsOf (s .second) ∷ []) (suc i) j e)
-        ∙ came Children q
+    pub step-closed : s .outcome ≡ Closed → i + 1 < 65536 → walkedIn (i + 1) ≡ W
+    unfolding forest
+    step-closed q m = code-next (i + 1) m ∙ rw add-one (came Closed q)
 
-pub ruleset steps = (walk-deep, walk-past, step-refused, step-closed, step-child, step-stopped, step-second)
+    pub step-child : s .outcome ≡ Child → below (factsOf (s .first)) (i + 1) ≡ W
+    step-child q = rw add-one (sym (forest-one below (factsOf (s .first)) (suc i)) ∙ came Child q)
+
+    -- Two children: the first is refused, or it ends at node c.
+    module _ (c : ℕ) (q : s .outcome ≡ Children) (a : walkedIn c ≡ below (factsOf (s .first)) (i + 1)) where
+      pub step-stopped : 65536 ≤ c → walkedIn c ≡ W
+      step-stopped m =
+          let f : below (factsOf (s .first)) (suc i) ≡ refused (c / 65536) (c % 65536) = sym (rw add-one at a) ∙ code-refused c m in
+          code-refused c m ∙ sym (forest-stops below (factsOf (s .first)) (factsOf (s .second) ∷ []) (suc i) _ _ f) ∙ came Children q
+
+      pub step-second : c < 65536 → below (factsOf (s .second)) c ≡ W
+      step-second m =
+          let f : below (factsOf (s .first)) (suc i) ≡ next c = sym (rw add-one at a) ∙ code-next c m in
+          sym (forest-one below (factsOf (s .second)) c)
+          ∙ sym (forest-goes below (factsOf (s .first)) (factsOf (s .second) ∷ []) (suc i) c f)
+          ∙ came Children q
+
+pub ruleset steps = (number-small, number-some, walk-deep, walk-past, step-refused, step-closed, step-child, step-stopped, step-second)
 
 -- ---- The whole tree
 
@@ -130,9 +201,10 @@ pub fresh-facts : (z : Sizes) (states rules : List ℕ) (u v : ℕ) (F : Facts) 
 fresh-facts z states rules u v F h e d f = f ∙ fresh-is (protocolOf z states rules) u v h e d
 
 -- The walk comes to w.
-module _ (P : Protocol) (H : Assumption) (T : Tree) (F : Facts) (w : Walk) (facts : F ≡ fresh P) (walked : walkedOf w ≡ treeAt P H T 40 F 0) where
+module _ (P : Protocol) (H : Assumption) (T : Tree) (F : Facts) (c : ℕ) (w : Walk) (facts : F ≡ fresh P) (walked : walkedIn c ≡ treeAt P H T 40 F 0)
+    (read : walkedOf w ≡ walkedIn c) where
   came-to : treeAt P H T 40 (fresh P) 0 ≡ walkedOf w
-  came-to = sym (rw facts at walked)
+  came-to = sym (read ∙ (rw facts at walked))
 
   pub answer-refused : (r : Refusal) → w ≡ Refused r → walkedOf w ≡ treeAnswer P H T
   unfolding treeAnswer

@@ -1,20 +1,22 @@
--- A party's set is one word; past the last party there is none.
-use Rattle.facts.specs.Code.Laws.{states-word, states-outside-party}
+-- The word of the party has its states.
+use Rattle.facts.specs.Code.Laws.{end-word}
 use borrow.Author.Needs.{needs}
 use Rattle.facts.proofs.Facts.at_most_one.Statement.{statement}
 use Rattle.facts.proofs.Facts.at_most_one.Tie as tie
 
-mul-result : tie.Need-mul-result
-mul-result c = search needs
+element-copy-out-word-of : tie.Need-element-copy-out-word-of
+element-copy-out-word-of c = search needs
 
-element-copy-out-result : tie.Need-element-copy-out-result
-element-copy-out-result c = search needs
+element-copy-out-word-of-2 : tie.Need-element-copy-out-word-of-2
+element-copy-out-word-of-2 c = search needs
+
+word-of-requires : tie.Need-word-of-requires
+word-of-requires c κs = search needs
 
 returns : tie.Need-returns
-returns c = search (states-word, needs)
-
-returns-2 : tie.Need-returns-2
-returns-2 c = search (states-outside-party, needs)
+returns c = search (end-word, needs)
 
 pub at-most-one-spec : {M : Type 1} → statement M
-at-most-one-spec = tie.close (tie.spec mul-result element-copy-out-result returns returns-2)
+at-most-one-spec =
+    tie.close
+    (tie.spec element-copy-out-word-of element-copy-out-word-of-2 word-of-requires returns)

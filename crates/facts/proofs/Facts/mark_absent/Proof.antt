@@ -1,38 +1,14 @@
--- The word of the party is joined with the set; where there is no such party nothing is to be marked.
+-- One sort of facts is extended, the others stay.
 use Rattle.facts.specs.Code.Laws.{marks}
 use borrow.Author.Needs.{needs}
 use Rattle.facts.proofs.Facts.mark_absent.Statement.{statement}
 use Rattle.facts.proofs.Facts.mark_absent.Tie as tie
 
+mark-party-requires : tie.Need-mark-party-requires
+mark-party-requires c κs = search needs
+
 returns : tie.Need-returns
 returns c = search (marks, needs)
 
-mul-union : tie.Need-mul-union
-mul-union c = search needs
-
-element-copy-out-union : tie.Need-element-copy-out-union
-element-copy-out-union c = search needs
-
-union-requires : tie.Need-union-requires
-union-requires c κs = search needs
-
-mul-self : tie.Need-mul-self
-mul-self c = search needs
-
-element-write-self : tie.Need-element-write-self
-element-write-self c = search needs
-
-returns-2 : tie.Need-returns-2
-returns-2 c = search (marks, needs)
-
 pub mark-absent-spec : {M : Type 1} → statement M
-mark-absent-spec =
-    tie.close
-    (tie.spec
-    returns
-    mul-union
-    element-copy-out-union
-    union-requires
-    mul-self
-    element-write-self
-    returns-2)
+mark-absent-spec = tie.close (tie.spec mark-party-requires returns)

@@ -1,20 +1,30 @@
--- A party's set is one word; past the last party there is none.
-use Rattle.facts.specs.Code.Laws.{states-word, states-outside-party}
+-- The word of the party has its states.
+use Rattle.facts.specs.Code.Laws.{states-word}
 use borrow.Author.Needs.{needs}
 use Rattle.facts.proofs.Facts.present.Statement.{statement}
 use Rattle.facts.proofs.Facts.present.Tie as tie
 
-mul-result : tie.Need-mul-result
-mul-result c = search needs
+element-copy-out-word-of : tie.Need-element-copy-out-word-of
+element-copy-out-word-of c = search needs
 
-element-copy-out-result : tie.Need-element-copy-out-result
-element-copy-out-result c = search needs
+element-copy-out-word-of-2 : tie.Need-element-copy-out-word-of-2
+element-copy-out-word-of-2 c = search needs
+
+element-copy-out-word-of-3 : tie.Need-element-copy-out-word-of-3
+element-copy-out-word-of-3 c = search needs
+
+word-of-requires : tie.Need-word-of-requires
+word-of-requires c κs = search needs
 
 returns : tie.Need-returns
 returns c = search (states-word, needs)
 
-returns-2 : tie.Need-returns-2
-returns-2 c = search (states-outside-party, needs)
-
 pub present-spec : {M : Type 1} → statement M
-present-spec = tie.close (tie.spec mul-result element-copy-out-result returns returns-2)
+present-spec =
+    tie.close
+    (tie.spec
+    element-copy-out-word-of
+    element-copy-out-word-of-2
+    element-copy-out-word-of-3
+    word-of-requires
+    returns)

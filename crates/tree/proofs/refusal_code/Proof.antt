@@ -1,0 +1,17 @@
+-- The number is behind 65,536, and the place below it.
+use Rattle.tree.specs.Code.Laws.{codes}
+use borrow.Author.Needs.{needs}
+use Rattle.tree.proofs.refusal_code.Statement.{statement}
+use Rattle.tree.proofs.refusal_code.Tie as tie
+
+mul-result : tie.Need-mul-result
+mul-result c = search needs
+
+add-result : tie.Need-add-result
+add-result c = search needs
+
+returns : tie.Need-returns
+returns c = search (codes, needs)
+
+pub refusal-code-spec : {M : Type 1} → statement M
+refusal-code-spec = tie.close (tie.spec mul-result add-result returns)

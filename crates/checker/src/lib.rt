@@ -2,8 +2,7 @@
 ghost use mathlib.Core.Path.{_≡_};
 ghost use Rattle.format.specs.Format.{sections, sectionsOf};
 ghost use Rattle.shape.specs.Sound.{SoundShape};
-ghost use Rattle.ladder.specs.Code.{SoundPairs};
-ghost use Rattle.node.specs.Code.{SoundRules};
+ghost use Rattle.shape.specs.Code.{SoundRules};
 ghost use Rattle.checker.specs.Check.{walkOf, summaryOf, treeCheck, sectionsCheck, checkOf};
 use format::Header;
 use format::Sizes;
@@ -70,7 +69,6 @@ fn sections_check(
     z: Sizes,
 ) -> Checked
     requires { ⌜ SoundRules z (now rules) ⌝ }
-    requires { ⌜ SoundPairs z (now rules) ⌝ }
     ensures { λ r.
         let x =
         sections (now (states .entry)) (now (rules .entry)) (now (layers .entry)) (now (nodes .entry)) (now (leaves .entry)) in

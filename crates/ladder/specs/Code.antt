@@ -1,7 +1,7 @@
 -- What the functions of the lowering and handover tests answer, beside theory's own definitions.
 use mathlib.Core.Bool.{Bool, cond, not, _&&_}
 use mathlib.Core.List.{List}
-use Prim.Native.Nat.{ℕ, _+_, _*_, _≤_, _<_}
+use Prim.Native.Nat.{ℕ, _+_, _*_, _<_}
 use lib.Dec.{leb, ltb, eqb}
 use lib.ListN.{length}
 use Rattle.theory.specs.Bool.{imp, bit}
@@ -9,7 +9,6 @@ use Rattle.theory.specs.Below.{anyBelow}
 use Rattle.theory.specs.Protocol.{Protocol}
 use Rattle.theory.specs.Ladder.{Layers, isLower, fits}
 use Rattle.format.specs.Format.{ruleP, ruleQ, ruleLayer}
-use Rattle.format.specs.declared.Sizes.{Sizes}
 use Rattle.format.specs.declared.Rule.{Rule}
 use Rattle.ladder.specs.declared.PreSequence.{PreSequence}
 pub mod Laws
@@ -70,10 +69,3 @@ pub record SoundPair (rules : List ℕ) (v : ℕ) : Type 0 where
   pub whole : 5 * v + 4 < length rules
   pub p-lt : ruleP rules v < 64
   pub q-lt : ruleQ rules v < 64
-
--- What handover needs of tests 3, 4 and 6: a word holds the states, the section is whole, and the before pairs are of states.
-pub record SoundPairs (z : Sizes) (rules : List ℕ) : Type 0 where
-  pub states-most : z .states ≤ 64
-  pub whole : 5 * z .rules ≤ length rules
-  pub p-lt : (r : ℕ) → r < z .rules → ruleP rules r < z .states
-  pub q-lt : (r : ℕ) → r < z .rules → ruleQ rules r < z .states

@@ -9,7 +9,8 @@ ghost use Rattle.theory.specs.Ladder.{lowersAt, handoverAt, spread};
 ghost use Rattle.format.specs.Code.{Value};
 ghost use Rattle.format.specs.Format.{layerWeight, protocolOf, layersOf};
 ghost use Rattle.theory.specs.Bool.{member};
-ghost use Rattle.ladder.specs.Code.{inPair, beyondOf, preSequenceOf, coversOf, statesIn, SoundPair, SoundPairs, fitsIn, firstLower};
+ghost use Rattle.shape.specs.Code.{SoundRules};
+ghost use Rattle.ladder.specs.Code.{inPair, beyondOf, preSequenceOf, coversOf, statesIn, SoundPair, fitsIn, firstLower};
 use format::Rule;
 use format::Sizes;
 
@@ -145,7 +146,7 @@ fn first_lower(layer: usize, n: u16) -> u16
 
 // Test 10: the lowest rule s at which handover fails, or the number of rules.
 pub fn handover_fault(states: &[u8], rules: &[u8], z: Sizes) -> u16
-    requires { ⌜ SoundPairs z (now rules) ⌝ }
+    requires { ⌜ SoundRules z (now rules) ⌝ }
     ensures { λ i.
         let P = protocolOf z (now (states .entry)) (now (rules .entry)) in
         ⌜ i ≡ firstBelow (z .rules) (λ s. not (handoverAt P (layersOf z (now (rules .entry))) s)) ⌝ }

@@ -3,8 +3,7 @@
 use mathlib.Core.Path.{_≡_}
 use mathlib.Core.Bool.{Bool, true, false, not, cond, Bool·beq, _&&_}
 use mathlib.Core.List.{List, [], _∷_}
-use Prim.Native.Nat.{ℕ, _*_, _^_, _≤_, _<_}
-use lib.ListN.{length}
+use Prim.Native.Nat.{ℕ, _^_, _≤_, _<_}
 use lib.Dec.{leb, ltb, eqb}
 use Rattle.theory.specs.Bool.{member, imp}
 use Rattle.theory.specs.Below.{allBelow}
@@ -13,7 +12,7 @@ use Rattle.theory.specs.Facts.{Facts, withAbsent, withAtMostOne, withUnused}
 use Rattle.theory.specs.Tree as theory
 use Rattle.theory.specs.Tree.{Assumption, assuming, refusalNumber, ground, children, takes, puts, touches, within, isTrap, isSiphon, node}
 use Rattle.bits.specs.Code.{amongOf, withoutOf, inWords, inWord}
-use Rattle.format.specs.Format.{isOutput, ruleP, ruleQ, ruleP′, ruleQ′, nodeKind, nodeParty, nodeArgument, nodeSet}
+use Rattle.format.specs.Format.{isOutput, ruleP, ruleQ, nodeKind, nodeParty, nodeArgument, nodeSet}
 use Rattle.format.specs.Format.{protocolOf, treeOf, weightsOf}
 use Rattle.format.specs.declared.Sizes.{Sizes}
 use Rattle.facts.specs.Code.{factsOf, isEnd, onlyIf}
@@ -45,22 +44,11 @@ pub record AimFits (z : Sizes) (states : List ℕ) (a : Aim) : Type 0 where
   pub zeros : member (a .zeros) ≡ amongOf (z .states) (λ s. not (isOutput z states s))
   pub ones : member (a .ones) ≡ amongOf (z .states) (isOutput z states)
 
--- ---- What a node needs of its docket
+-- ---- The fields of a node
 
 -- The fields of node i.
 abbrev pub nodeOf : List ℕ → ℕ → Node
 nodeOf nodes i = record { kind = nodeKind nodes i; party = nodeParty nodes i; argument = nodeArgument nodes i; set = nodeSet nodes i }
-
--- What a node needs of tests 3, 4 and 6: states and rules are so few that words hold them, the section is whole, and the
--- states of a rule are below 64.
-pub record SoundRules (z : Sizes) (rules : List ℕ) : Type 0 where
-  pub states-most : z .states ≤ 64
-  pub rules-most : z .rules ≤ 256
-  pub whole : 5 * z .rules ≤ length rules
-  pub p-lt : (r : ℕ) → r < z .rules → ruleP rules r < 64
-  pub q-lt : (r : ℕ) → r < z .rules → ruleQ rules r < 64
-  pub p′-lt : (r : ℕ) → r < z .rules → ruleP′ rules r < 64
-  pub q′-lt : (r : ℕ) → r < z .rules → ruleQ′ rules r < 64
 
 -- ---- Rules and a set, in words of 64 rules
 

@@ -2,7 +2,7 @@
 use mathlib.Core.Path.{_≡_}
 use mathlib.Core.Bool.{Bool, not, cond, _||_, _&&_}
 use mathlib.Core.List.{List, []}
-use Prim.Native.Nat.{ℕ, _+_, _*_, _%_}
+use Prim.Native.Nat.{ℕ, _+_, _*_, _%_, _≤_, _<_}
 use lib.Dec.{ltb}
 use lib.ListN.{length}
 use Rattle.theory.specs.Below.{anyBelow}
@@ -76,3 +76,14 @@ pub record Lengths (b : List ℕ) (h : Header) : Type 0 where
   pub layers : length (sectionsOf b h .layers) ≡ layersLength (h .sizes)
   pub nodes : length (sectionsOf b h .nodes) ≡ nodesLength (h .sizes)
   pub leaves : length (sectionsOf b h .leaves) ≡ leavesLength (h .sizes)
+
+-- What callers need of tests 3, 4 and 6 for the rules: states and rules are so few that words hold them, the section is
+-- whole, and a rule is of states.
+pub record SoundRules (z : Sizes) (rules : List ℕ) : Type 0 where
+  pub states-most : z .states ≤ 64
+  pub rules-most : z .rules ≤ 256
+  pub whole : 5 * z .rules ≤ length rules
+  pub p-lt : (r : ℕ) → r < z .rules → ruleP rules r < z .states
+  pub q-lt : (r : ℕ) → r < z .rules → ruleQ rules r < z .states
+  pub p′-lt : (r : ℕ) → r < z .rules → ruleP′ rules r < z .states
+  pub q′-lt : (r : ℕ) → r < z .rules → ruleQ′ rules r < z .states

@@ -6,7 +6,8 @@ ghost use Rattle.theory.specs.Facts.{fresh};
 ghost use Rattle.theory.specs.Tree.{refused, disagreement, treeAt, treeAnswer, widest as widestOf};
 ghost use Rattle.format.specs.Format.{protocolOf, treeOf, weightsOf};
 ghost use Rattle.facts.specs.Code.{factsOf};
-ghost use Rattle.node.specs.Code.{assumptionOf, AimFits, SoundRules};
+ghost use Rattle.shape.specs.Code.{SoundRules};
+ghost use Rattle.node.specs.Code.{assumptionOf, AimFits};
 ghost use Rattle.tree.specs.Code.{walkedOf, walkedIn, refusalOf, Disagrees, setSizeAt};
 use facts::Facts;
 use format::Flag;
@@ -42,8 +43,8 @@ fn refuse(number: u32, i: u16) -> Walk
     Walk::Refused(Refusal { number, place })
 }
 
-// In the walk itself its answer is one number, as numbers need not lie in memory: below 65,536 the next node, else a
-// refusal, its number times 65,536 plus its place.
+// A refusal at a node as one number: its own times 65,536, plus the place. The walk's answer is such a number, or the next
+// node, which is below 65,536: a number need not lie in memory.
 fn refusal_code(number: u32, i: u16) -> u32
     requires { ⌜ 1 ≤ number ⌝ }
     requires { ⌜ number < 65536 ⌝ }

@@ -1,5 +1,5 @@
 -- `checker::certificate` meets its contract: the sections are those of the docket.
-use Rattle.checker.specs.Check.Laws.{rules-sound, pairs-sound, sections-are}
+use Rattle.checker.specs.Check.Laws.{rules-sound, sections-are}
 use borrow.Author.Needs.{needs}
 use Rattle.checker.proofs.certificate.Statement.{statement}
 use Rattle.checker.proofs.certificate.Tie as tie
@@ -20,7 +20,7 @@ leaves-section-requires : tie.Need-leaves-section-requires
 leaves-section-requires c κs = search needs
 
 sections-check-requires : tie.Need-sections-check-requires
-sections-check-requires c κs = search (rules-sound, pairs-sound, needs)
+sections-check-requires c κs = search (rules-sound, needs)
 
 returns : tie.Need-returns
 returns c = search (sections-are, needs)

@@ -9,12 +9,10 @@ use Rattle.format.specs.Format.{Sections, sections, sectionsOf, layerWeight, pr
 use Rattle.format.specs.declared.Sizes.{Sizes}
 use Rattle.format.specs.declared.Header.{Header}
 use Rattle.shape.specs.Sound.{SoundShape}
-use Rattle.shape.specs.Sound.Laws.{sound-lengths}
+use Rattle.shape.specs.Sound.Laws.{sound-rules}
+use Rattle.shape.specs.Code.{SoundRules}
 use Rattle.shape.specs.declared.Refusal.{Refusal}
-use Rattle.ladder.specs.Code.{SoundPairs}
-use Rattle.ladder.specs.Code.Laws.{sound-pairs, spreads-are}
-use Rattle.node.specs.Code.{SoundRules}
-use Rattle.node.specs.Code.Laws.{sound-rules}
+use Rattle.ladder.specs.Code.Laws.{spreads-are}
 use Rattle.tree.specs.Code.{walkedOf, refusalOf}
 use Rattle.tree.specs.declared.Walk.{Walk}
 use Rattle.tree.specs.declared.Walk.the-variants as walk
@@ -34,11 +32,7 @@ module _ (b : List ℕ) (h : Header) where
   sections-are states rules layers nodes leaves a es er el en ek e = rw (es, er, el, en, ek) at e
 
   pub rules-sound : (rules : List ℕ) → rules ≡ sectionsOf b h .rules → SoundShape b h → SoundRules (h .sizes) rules
-  rules-sound rules er sound = rw er (sound-rules (h .sizes) (sectionsOf b h) (sound .limits) (sound-lengths b h sound .rules) (sound .sections))
-
-  pub pairs-sound : (rules : List ℕ) → rules ≡ sectionsOf b h .rules → SoundShape b h → SoundPairs (h .sizes) rules
-  pairs-sound rules er sound =
-      rw er (sound-pairs (h .sizes) (sectionsOf b h) (sound .limits) (sound-lengths b h sound .rules) (sound .sections))
+  rules-sound rules er sound = rw er (sound-rules b h sound)
 
 -- ---- Tests 12 and 13
 

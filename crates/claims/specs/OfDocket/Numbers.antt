@@ -19,7 +19,8 @@ use Rattle.theory.specs.Ladder.{Layers}
 use Rattle.theory.specs.Facts.{Facts, fresh}
 use Rattle.theory.specs.Tree as theory
 use Rattle.theory.specs.Tree.{Walked, next, Tree, Assumption, disagreement, refusalNumber, forest, children, ground, node, treeAt, treeAnswer}
-use Rattle.theory.specs.Tree.{Node, leaf, outputAbsent, contradiction, disabled, caseSplit, trap, siphon, remainder, bad}
+use Rattle.theory.specs.Tree.{Node}
+use Rattle.theory.specs.Subtree.Laws.{by-fields}
 use Rattle.theory.specs.Machine.{Call, step, run, Reply, stepped, ran, refused, isRefused, isSized, isWithin, admitted, admit}
 use Rattle.theory.specs.Machine.{stepReply, runReply, reply, countsAfter}
 use Rattle.theory.specs.Machine.Laws.{adds-off, adds-on, reply-step, reply-run, step-refused}
@@ -216,16 +217,7 @@ module _ (b c : List ℕ) where
 
 module _ (ns : List ℕ) (p : isOneOf 12 ns ≡ true) (q : isOneOf 13 ns ≡ true) where
   node-number : (n : Node) → isOneOf (refusalNumber n) ns ≡ true
-  unfolding refusalNumber
-  node-number (leaf l) = q
-  node-number (outputAbsent k) = q
-  node-number (contradiction k s) = q
-  node-number (disabled k r) = q
-  node-number (caseSplit k s) = q
-  node-number (trap k w) = q
-  node-number (siphon k w) = q
-  node-number (remainder l m) = q
-  node-number bad = p
+  node-number n = by-fields n (λ _ e. rw e p) (λ _ e. rw e q)
 
   forest-number : (t : Facts → ℕ → Walked) → ((F : Facts) (i : ℕ) → isOneOf (walkNumber (t F i)) ns ≡ true)
       → (Fs : List Facts) (i : ℕ) → isOneOf (walkNumber (forest t Fs i)) ns ≡ true

@@ -230,15 +230,15 @@ pub fresh-words : (n u x y v w : ℕ) → member u ≡ fullOf n → member v ≡
 unfolding freshOf statesAt statesAtEnd rulesOfRun inWords
 fresh-words n u x y v w d e f = rw (start-alone w, start-alone y, none-at, none-in, f, e, d)
   where
+    none : (k i : ℕ) → member (ofParty 0 0 0 k) i ≡ false
+    none k i = ap (λ (f : ℕ → ℕ → Bool). f k i) (start-alone 0) ∙ rw (member-none i) (and-false (eqb k 0))
+
     none-at : statesAtEnd (replicate 2 0) ≡ (λ _ _. false)
-    none-at = fun-ext (λ k. fun-ext (λ s. ap (λ (f : ℕ → ℕ → Bool). f k s) (start-alone 0) ∙ rw (member-none s) (and-false (eqb k 0))))
+    none-at = fun-ext (λ k. fun-ext (none k))
 
     none-in : rulesOfRun (replicate 8 0) ≡ (λ _ _. false)
     none-in = fun-ext (λ k. fun-ext (λ r. at k (r / 64) (r % 64)))
       where
-        none : (k i : ℕ) → member (ofParty 0 0 0 k) i ≡ false
-        none k i = ap (λ (f : ℕ → ℕ → Bool). f k i) (start-alone 0) ∙ rw (member-none i) (and-false (eqb k 0))
-
         at : (k q i : ℕ) → member (getD (ofParty 0 0 0 k ∷ ofParty 0 0 0 k ∷ ofParty 0 0 0 k ∷ ofParty 0 0 0 k ∷ []) q 0) i ≡ false
         at k zero i = none k i
         at k (suc zero) i = none k i

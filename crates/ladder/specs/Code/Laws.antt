@@ -9,7 +9,6 @@ use native.Mathlib.Numerals.{add-one}
 use native.Mathlib.Omega.{arith}
 use borrow.Author.Tests.{leb-true, leb-false, eqb-true, eqb-false, lt-ltb, le-ltb, ltb-false, le-leb, lt-leb, eq-eqb, ne-eqb, not-true, not-false}
 use lib.Dec.{leb, ltb, eqb}
-use lib.ListN.{length}
 use mir.Val.{boolByte}
 use Rattle.theory.specs.Bool.{member, imp, bit}
 use Rattle.theory.specs.Bool.Laws.{by-test, not-both, is-false, and-elim, and-fails, imp-intro}
@@ -20,12 +19,12 @@ use Rattle.theory.specs.Protocol.{Protocol}
 use Rattle.theory.specs.Ladder.{Layers, lowersAt, isLower, preSequence, fits, handoverAt, spread, spreads}
 use Rattle.bits.specs.Code.{singleOf, unionOf}
 use Rattle.format.specs.Code.{Value}
-use Rattle.format.specs.Format.{Sections, rulesLength, ruleP, ruleQ, ruleLayer, ruleOf, protocolOf, layersOf}
+use Rattle.format.specs.Format.{ruleP, ruleQ, ruleLayer, ruleOf, protocolOf, layersOf}
 use Rattle.format.specs.declared.Sizes.{Sizes}
 use Rattle.format.specs.declared.Rule.{Rule}
-use Rattle.shape.specs.Sound.{Limits, SoundSections}
+use Rattle.shape.specs.Code.{SoundRules}
 use Rattle.ladder.specs.declared.PreSequence.{PreSequence}
-use Rattle.ladder.specs.Code.{fitting, uncovered, inPair, beyondOf, preSequenceOf, heldOf, coversOf, fitsIn, firstLower, statesIn, SoundPair, SoundPairs}
+use Rattle.ladder.specs.Code.{fitting, uncovered, inPair, beyondOf, preSequenceOf, heldOf, coversOf, fitsIn, firstLower, statesIn, SoundPair}
 
 -- ---- Lowering at rule r, of layer l
 
@@ -209,11 +208,8 @@ module _ (rules : List ℕ) (l : ℕ) (j : PreSequence) (v m : ℕ) (e : m ≡ r
     unfolding fitsIn
     fits-not-first k = rw (lt-ltb (ruleLayer rules v) l (omega arith), ← d, ← f, sym g ∙ k)
 
--- What the sound shape of a docket gives.
-pub sound-pairs : (z : Sizes) (x : Sections) → Limits z → length (x .rules) ≡ rulesLength z → SoundSections z x → SoundPairs z (x .rules)
-sound-pairs z x l e g = record { states-most = l .states-most; whole = omega arith; p-lt = g .formed .p-lt; q-lt = g .formed .q-lt }
-
-pub sound-pair : (z : Sizes) (rules : List ℕ) (v : ℕ) → SoundPairs z rules → v < z .rules → SoundPair rules v
+-- What sound rules give for one of them.
+pub sound-pair : (z : Sizes) (rules : List ℕ) (v : ℕ) → SoundRules z rules → v < z .rules → SoundPair rules v
 sound-pair z rules v sound l = record {
   whole = omega (arith, sound .whole);
   p-lt = omega (arith, sound .p-lt v l, sound .states-most);
@@ -295,7 +291,7 @@ module _ (z : Sizes) (states rules : List ℕ) (s u : ℕ) (a b : Rule) (ea : a 
   none-covers v l none e = covered-by-none P L s u (omega (arith, layer-s, layer-u)) (λ k m. none k (omega arith))
 
   -- The test t of a turn of the search, at rule v.
-  module _ (sound : SoundPairs z rules) (v : ℕ) (l : v < z .rules) (j : PreSequence) (t : Bool) (ej : j ≡ preSequenceOf (z .states) a b)
+  module _ (sound : SoundRules z rules) (v : ℕ) (l : v < z .rules) (j : PreSequence) (t : Bool) (ej : j ≡ preSequenceOf (z .states) a b)
       (e : t ≡ fitsIn rules (a .layer) j v) where
     fits-in : fitsIn rules (ruleLayer rules s) (preSequenceOf (z .states) (ruleOf rules s) (ruleOf rules u)) v ≡ fitting P L s u v
     unfolding fitsIn fitting isLower fits

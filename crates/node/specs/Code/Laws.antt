@@ -24,32 +24,19 @@ use Rattle.theory.specs.Tree.{takes, puts, touches, follows, isTrap, isSiphon, 
 use Rattle.bits.specs.Code.{singleOf, fullOf, amongOf, unionOf, withIf, withoutOf, subsetOf, inWords, inWord, firstWords}
 use Rattle.bits.specs.Code.Laws.{member-above, member-small, all-wider, subset-states, among-none, among-more}
 use Rattle.bits.specs.Code.Laws.{words-start, words-more, words-end}
-use Rattle.format.specs.Format.{Sections, isOutput, rulesLength, ruleP, ruleQ, protocolOf, treeOf, weightsOf}
+use Rattle.format.specs.Format.{isOutput, ruleP, ruleQ, protocolOf, treeOf, weightsOf}
 use Rattle.format.specs.declared.Sizes.{Sizes}
-use Rattle.shape.specs.Sound.{Limits, SoundSections}
+use Rattle.shape.specs.Code.{SoundRules}
 use Rattle.facts.specs.Code.{isEnd, statesAt, onlyIf}
 use Rattle.facts.specs.Code.Laws.{within-party, within-ends, within-states, within-end-states}
 use Rattle.share.specs.Code.{closesBy}
 use Rattle.share.specs.declared.Closing.the-variants.{BySums, ByRemainders}
-use Rattle.node.specs.Code.{outputAt, assumedWord, assumptionOf, AimFits, nodeOf, SoundRules, rulesIn, FlowAt, breakingOf, isTrapOf}
+use Rattle.node.specs.Code.{outputAt, assumedWord, assumptionOf, AimFits, nodeOf, rulesIn, FlowAt, breakingOf, isTrapOf}
 use Rattle.node.specs.Code.{Turn, refuse, check, judged, nodeTurn, turnAt, leafFields, runFields, stateFields, ruleFields, setFields, remainderFields}
 use Rattle.node.specs.Code.{outputGone, NamesRule, disabledChildren, NamesSet, partyIf, setGround, setChild, goneOf}
 use Rattle.node.specs.declared.Aim.{Aim}
 use Rattle.node.specs.declared.Flow.{Flow}
 use Rattle.node.specs.declared.Node.{Node}
-
--- What the sound shape of a docket gives.
-pub sound-rules : (z : Sizes) (x : Sections) → Limits z → length (x .rules) ≡ rulesLength z → SoundSections z x → SoundRules z (x .rules)
-sound-rules z x l e g =
-    record {
-      states-most = l .states-most;
-      rules-most = l .rules-most;
-      whole = omega arith;
-      p-lt = λ r h. lt-of-lt-of-le (g .formed .p-lt r h) (l .states-most);
-      q-lt = λ r h. lt-of-lt-of-le (g .formed .q-lt r h) (l .states-most);
-      p′-lt = λ r h. lt-of-lt-of-le (g .formed .p′-lt r h) (l .states-most);
-      q′-lt = λ r h. lt-of-lt-of-le (g .formed .q′-lt r h) (l .states-most);
-    }
 
 -- ---- Fields, then ground
 
@@ -150,16 +137,16 @@ module _ (S w : ℕ) (h : w < 2 ^ 64) where
 
 module _ (z : Sizes) (rules : List ℕ) (s : SoundRules z rules) (r : ℕ) (h : r < z .rules) where
   pub p-below : getD rules (5 * r) 0 < 64
-  p-below = s .p-lt r h
+  p-below = lt-of-lt-of-le (s .p-lt r h) (s .states-most)
 
   pub q-below : getD rules (5 * r + 1) 0 < 64
-  q-below = s .q-lt r h
+  q-below = lt-of-lt-of-le (s .q-lt r h) (s .states-most)
 
   pub p′-below : getD rules (5 * r + 2) 0 < 64
-  p′-below = s .p′-lt r h
+  p′-below = lt-of-lt-of-le (s .p′-lt r h) (s .states-most)
 
   pub q′-below : getD rules (5 * r + 3) 0 < 64
-  q′-below = s .q′-lt r h
+  q′-below = lt-of-lt-of-le (s .q′-lt r h) (s .states-most)
 
 pub ruleset ruleStates = (p-below, q-below, p′-below, q′-below)
 
@@ -319,14 +306,10 @@ pub ruleset touched = (words-start, touching-more, touching-end)
 
 -- What good fields say of the party, the argument and the set, where there are at most two runs.
 module _ (z : Sizes) (runs : ℕ) (n : Node) (few : runs ≤ 2) where
-  run-least : (a b : Bool) → ((leb 1 (n .party) && leb (n .party) runs) && a) && b ≡ true → 1 ≤ n .party
-  run-least a b e =
-      leb-true 1 (n .party) (and-elim (leb 1 (n .party)) (leb (n .party) runs) (and-elim (leb 1 (n .party) && leb (n .party) runs) a (and-elim _ b e .0) .0) .0)
-
-  run-party : (a b : Bool) → ((leb 1 (n .party) && leb (n .party) runs) && a) && b ≡ true → n .party < 3
-  run-party a b e =
+  run-within : (a b : Bool) → ((leb 1 (n .party) && leb (n .party) runs) && a) && b ≡ true → (1 ≤ n .party) × (n .party < 3)
+  run-within a b e =
       let t = and-elim (leb 1 (n .party)) (leb (n .party) runs) (and-elim (leb 1 (n .party) && leb (n .party) runs) a (and-elim _ b e .0) .0) in
-      omega (arith, leb-true (n .party) runs (t .1))
+      (leb-true 1 (n .party) (t .0), omega (arith, leb-true (n .party) runs (t .1)))
 
   state-party : stateFields z runs n ≡ true → n .party < 3
   state-party e =
@@ -339,10 +322,10 @@ module _ (z : Sizes) (runs : ℕ) (n : Node) (few : runs ≤ 2) where
   names-rule rules s =
       record {
         is = refl;
-        party-least = run-least (ltb (n .argument) (z .rules)) (eqb (n .set) 0);
-        party-lt = run-party (ltb (n .argument) (z .rules)) (eqb (n .set) 0);
-        p-lt = λ e. s .p-lt (n .argument) (argument e);
-        q-lt = λ e. s .q-lt (n .argument) (argument e);
+        party-least = λ e. run-within (ltb (n .argument) (z .rules)) (eqb (n .set) 0) e .0;
+        party-lt = λ e. run-within (ltb (n .argument) (z .rules)) (eqb (n .set) 0) e .1;
+        p-lt = λ e. lt-of-lt-of-le (s .p-lt (n .argument) (argument e)) (s .states-most);
+        q-lt = λ e. lt-of-lt-of-le (s .q-lt (n .argument) (argument e)) (s .states-most);
       }
     where
       argument : ruleFields z runs n ≡ true → n .argument < z .rules
@@ -354,8 +337,8 @@ module _ (z : Sizes) (runs : ℕ) (n : Node) (few : runs ≤ 2) where
   names-set t l e =
       record {
         is = rw e;
-        party-least = run-least (eqb (n .argument) 0) t;
-        party-lt = run-party (eqb (n .argument) 0) t;
+        party-least = λ d. run-within (eqb (n .argument) 0) t d .0;
+        party-lt = λ d. run-within (eqb (n .argument) 0) t d .1;
         set-lt = λ d.
             let u : t ≡ true = and-elim ((leb 1 (n .party) && leb (n .party) runs) && eqb (n .argument) 0) t d .1 in
             ltb-true _ _ (and-elim (ltb 0 (n .set)) (ltb (n .set) (2 ^ z .states)) (sym e ∙ u) .1);

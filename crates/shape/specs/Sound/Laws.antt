@@ -28,7 +28,7 @@ use Rattle.shape.specs.declared.Shape.{Shape}
 use Rattle.shape.specs.declared.Shape.the-variants.{Sound, Refused}
 use Rattle.shape.specs.Shape.Marks.{pair-same}
 use Rattle.shape.specs.Sound.{IsVersion, Limits, Laid, InOrder, SoundSections, SoundShape}
-use Rattle.shape.specs.Code.{Lengths}
+use Rattle.shape.specs.Code.{Lengths, SoundRules}
 
 -- ---- The version
 
@@ -362,3 +362,16 @@ shape-sound b h g =
 
 pub sound-at : (b : List ℕ) (s : Shape) (h : Header) → s ≡ shapeOf b → s ≡ Sound h → SoundShape b h
 sound-at b s h e u = sound-shape b h (sym e ∙ u)
+
+pub sound-rules : (b : List ℕ) (h : Header) → SoundShape b h → SoundRules (h .sizes) (sectionsOf b h .rules)
+sound-rules b h s =
+    let l = sound-lengths b h s .rules in
+    record {
+      states-most = s .limits .states-most;
+      rules-most = s .limits .rules-most;
+      whole = omega arith;
+      p-lt = s .sections .formed .p-lt;
+      q-lt = s .sections .formed .q-lt;
+      p′-lt = s .sections .formed .p′-lt;
+      q′-lt = s .sections .formed .q′-lt;
+    }

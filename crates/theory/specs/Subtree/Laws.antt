@@ -60,7 +60,7 @@ order-within R N within [] i j l e = omega arith
 order-within R N within (F ∷ Fs) i j l s = order-within R N within Fs (s .0) j (within F i (s .0) l (s .1)) (s .2)
 
 -- A node is bad or not; its refusal's number is 12 or 13 by that.
-by-fields : {X : Type 0} (n : Node) → (n ≡ bad → refusalNumber n ≡ 12 → X) → ((n ≡ bad → ⊥) → refusalNumber n ≡ 13 → X) → X
+pub by-fields : {X : Type 0} (n : Node) → (n ≡ bad → refusalNumber n ≡ 12 → X) → ((n ≡ bad → ⊥) → refusalNumber n ≡ 13 → X) → X
 unfolding refusalNumber
 by-fields (leaf l) f g = g (λ e. let z : _≡_ {A = ℕ} 0 1 = cc in omega arith) refl
 by-fields (outputAbsent k) f g = g (λ e. let z : _≡_ {A = ℕ} 0 1 = cc in omega arith) refl

@@ -13,8 +13,8 @@ use Rattle.theory.specs.Below.Scan.{at-end}
 use Rattle.theory.specs.Protocol.{Protocol}
 use Rattle.theory.specs.Facts.{Facts, fresh}
 use Rattle.theory.specs.Tree.{Tree, Assumption, Walked, next, refused, forest, refusalNumber, ground, children, assuming, disagreement}
-use Rattle.theory.specs.Tree.{node, treeAt, treeAnswer}
-use Rattle.theory.specs.Tree.{Node, leaf, outputAbsent, contradiction, disabled, caseSplit, trap, siphon, remainder, bad}
+use Rattle.theory.specs.Tree.{Node, node, treeAt, treeAnswer}
+use Rattle.theory.specs.Subtree.Laws.{by-fields}
 use Rattle.theory.specs.Tree.{setSize, widestBelow, widest}
 use Rattle.bits.specs.Code.{fullOf, amongOf, withoutOf}
 use Rattle.format.specs.Format.{isInput, isOutput, fixedOf, nodeKind, nodeSet, protocolOf, treeOf, weightsOf}
@@ -71,25 +71,15 @@ unfoldable number-of : Turn → ℕ
 number-of (refuse n) = n
 number-of (proceed Fs) = 12
 
-either : (m : Node) → (12 ≤ refusalNumber m) × (refusalNumber m ≤ 13)
-unfolding refusalNumber
-either (leaf l) = (omega arith, omega arith)
-either (outputAbsent k) = (omega arith, omega arith)
-either (contradiction k t) = (omega arith, omega arith)
-either (disabled k r) = (omega arith, omega arith)
-either (caseSplit k t) = (omega arith, omega arith)
-either (trap k w) = (omega arith, omega arith)
-either (siphon k w) = (omega arith, omega arith)
-either (remainder l w) = (omega arith, omega arith)
-either bad = (omega arith, omega arith)
-
 turn-number : (P : Protocol) (H : Assumption) (F : Facts) (m : Node) (n : ℕ) → nodeTurn P H F m ≡ refuse n → (12 ≤ n) × (n ≤ 13)
 unfolding nodeTurn check number-of
 turn-number P H F m n t = go (ground P H F m) t
   where
     go : (b : Bool) → check b (refusalNumber m) (proceed (children P F m)) ≡ refuse n → (12 ≤ n) × (n ≤ 13)
     go true u = let e : 12 ≡ n = ap number-of u in (omega arith, omega arith)
-    go false u = let e : refusalNumber m ≡ n = ap number-of u in let r = either m in (omega arith, omega arith)
+    go false u =
+        let e : refusalNumber m ≡ n = ap number-of u in
+        by-fields m (λ _ r. (omega arith, omega arith)) (λ _ r. (omega arith, omega arith))
 
 -- ---- The walk's answer as one number
 

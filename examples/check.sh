@@ -1,5 +1,5 @@
 #!/usr/bin/env bash
-# Compiles page_reader.c, random_vote.c and table_editor.c with the static library and compares their runs with examples/expect/.
+# Compiles page_reader.c, page_votes.c, random_vote.c and table_editor.c with the static library and compares their runs with examples/expect/.
 # Each file there is one run: the command line, what it prints, and its exit status. $new names a file that is not there yet.
 set -euo pipefail
 cd "$(dirname "$0")/.."
@@ -11,7 +11,7 @@ if [[ ! -f $library ]]; then
   echo "examples: no $library; tools/library makes it" >&2
   exit 2
 fi
-for program in page_reader random_vote table_editor; do
+for program in page_reader page_votes random_vote table_editor; do
   cc -std=c99 -Wall -Wextra -Wpedantic -Werror -Iinclude "examples/$program.c" "$library" -o "$work/$program"
 done
 

@@ -10,8 +10,6 @@
 #define PROGRAM "page_reader"
 #include "shared.h"
 
-enum { STEPS_AT_ONCE = 100000 };
-
 /* Runs the group to rest. With an accepted docket docket_run always gets there, so the loop ends. */
 static int run_to_rest(const struct docket *docket, struct group *group)
 {
@@ -27,6 +25,7 @@ static int run_to_rest(const struct docket *docket, struct group *group)
     }
     printf("run: at rest after %" PRIu64 " steps", total);
     say_counts(group);
+    printf("\n");
     return DONE;
 }
 

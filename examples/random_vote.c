@@ -82,6 +82,7 @@ static int draw_to_rest(const struct docket *docket, struct group *group, uint64
         return status;
     printf("vote: %s after %" PRIu64 " meetings", sum == 0 ? "at rest" : "not at rest", meetings);
     say_counts(group);
+    printf("\n");
     return sum == 0 ? DONE : NOT_AT_REST;
 }
 

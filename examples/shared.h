@@ -13,7 +13,8 @@ enum {
     DONE = 0,
     REFUSED = 1,
     TROUBLE = 2,
-    MOST_BYTES = DOCKET_MAX_BYTES + 1   /* so that a longer file is refused as too long */
+    MOST_BYTES = DOCKET_MAX_BYTES + 1,  /* so that a longer file is refused as too long */
+    STEPS_AT_ONCE = 100000              /* the limit of one call that runs groups */
 };
 
 struct docket {
@@ -88,18 +89,25 @@ static inline int read_docket(const char *name, struct docket *docket)
     return DONE;
 }
 
+/* Reads the next count of a group. */
+static inline int read_count(const char *text, struct group *group)
+{
+    uint64_t count = 0;
+    if (group->len == DOCKET_MAX_STATES)
+        return trouble(text, "more counts than a docket has states");
+    if (!read_number(text, UINT32_MAX, &count))
+        return trouble(text, "not a count");
+    group->counts[group->len++] = (uint32_t)count;
+    return DONE;
+}
+
 /* Reads n counts. */
 static inline int read_counts(int n, char **text, struct group *group)
 {
-    for (int i = 0; i < n; i++) {
-        uint64_t count = 0;
-        if (group->len == DOCKET_MAX_STATES)
-            return trouble(text[i], "more counts than a docket has states");
-        if (!read_number(text[i], UINT32_MAX, &count))
-            return trouble(text[i], "not a count");
-        group->counts[group->len++] = (uint32_t)count;
-    }
-    return DONE;
+    int status = DONE;
+    for (int i = 0; i < n && status == DONE; i++)
+        status = read_count(text[i], group);
+    return status;
 }
 
 static inline int check_docket(struct docket *docket)
@@ -114,24 +122,26 @@ static inline int check_docket(struct docket *docket)
     return DONE;
 }
 
-static inline int start_test(const struct docket *docket, const struct group *group)
+/* The start test of a group. Counts that are missing at the end are 0. A refusal is said with the name. */
+static inline int start_test(const struct docket *docket, struct group *group, const char *name)
 {
+    if (group->len < docket->states)
+        group->len = docket->states;
     uint64_t code = docket_start_test(docket->bytes, docket->len, group->counts, group->len);
     if (code != 0)
-        return say_refused("start", docket_call_number(code), docket_call_place(code));
-    printf("start: passed\n");
+        return say_refused(name, docket_call_number(code), docket_call_place(code));
     return DONE;
 }
 
-/* Checks the docket and tests the start. Counts that are missing at the end are 0. */
+/* Checks the docket and tests the start. */
 static inline int begin(struct docket *docket, struct group *group)
 {
     int status = check_docket(docket);
-    if (status != DONE)
-        return status;
-    if (group->len < docket->states)
-        group->len = docket->states;
-    return start_test(docket, group);
+    if (status == DONE)
+        status = start_test(docket, group, "start");
+    if (status == DONE)
+        printf("start: passed\n");
+    return status;
 }
 
 static inline void say_counts(const struct group *group)
@@ -139,17 +149,27 @@ static inline void say_counts(const struct group *group)
     printf(", counts");
     for (size_t i = 0; i < group->len; i++)
         printf(" %" PRIu32, group->counts[i]);
-    printf("\n");
 }
 
-static inline int read_verdict(const struct docket *docket, const struct group *group)
+/* The verdict of a group in words. A refusal is said with the name. */
+static inline int ask_verdict(const struct docket *docket, const struct group *group, const char *name,
+                              const char **verdict)
 {
     uint64_t answer = 0;
     uint64_t code = docket_verdict(docket->bytes, docket->len, group->counts, group->len, &answer);
     if (code != 0)
-        return say_refused("verdict", docket_call_number(code), docket_call_place(code));
-    printf("verdict: %s\n", answer == 0 ? "0" : answer == 1 ? "1" : "mixed");
+        return say_refused(name, docket_call_number(code), docket_call_place(code));
+    *verdict = answer == 0 ? "0" : answer == 1 ? "1" : "mixed";
     return DONE;
+}
+
+static inline int read_verdict(const struct docket *docket, const struct group *group)
+{
+    const char *verdict = NULL;
+    int status = ask_verdict(docket, group, "verdict", &verdict);
+    if (status == DONE)
+        printf("verdict: %s\n", verdict);
+    return status;
 }
 
 #endif

@@ -8,7 +8,8 @@
  * Call docket_check or docket_figures first, and use the table only where it returns 0. The calls of the machine (all
  * functions with counts) make only tests 1 to 8, so they work on a docket that docket_check refuses too, and such a
  * table may never come to rest. They make these tests in every call: to make many meetings, use docket_run rather than
- * docket_step again and again. docket_write needs no docket: it is lent the five sections and makes the header.
+ * docket_step again and again, and to run many groups, docket_run_page. docket_write needs no docket: it is lent the five
+ * sections and makes the header.
  *
  * Dockets are of version 1 or 2; every function takes both. A docket of version 2 has a number of fixed workers for each
  * state, which every start has there; in version 1 this number is 0 for every state. Counts are of all workers, the fixed
@@ -16,24 +17,25 @@
  *
  * What a caller hands over. A docket is a pointer to its bytes and their number; any bytes may be given, at any address.
  * The parts and the output of docket_write are handed over in the same way. Counts are one uint32_t for each state of
- * the docket, in order, and their number. Counts, answers, figures and the total are aligned as their types are. No
- * pointer is null, also where a length is 0, and no two of them overlap.
+ * the docket, in order, and their number; docket_run_page takes the counts of many groups. Counts, answers, results,
+ * figures and the total are aligned as their types are. No pointer is null, also where a length is 0, and no two of them
+ * overlap.
  *
  * What a function does. It writes only where it says here; it keeps nothing between calls and allocates nothing. So the
- * functions may be called from several threads at once, each with its own counts, answers and output. They use about
- * 32 KB of stack where a tree is 40 deep, else less; DOCKET_STACK bytes are enough. The library needs memcpy and memset
- * at most, and no other function from elsewhere.
+ * functions may be called from several threads at once, each with its own counts, answers, results and output. They use
+ * about 32 KB of stack where a tree is 40 deep, else less; DOCKET_STACK bytes are enough. The library needs memcpy and
+ * memset at most, and no other function from elsewhere.
  *
  * What a function returns: 0 where it did its work, else a refusal, which has a number and a place. There is a table of
- * tests for the check, for the calls of the machine and for docket_write. The tests are made in the order of the table,
- * from above, and not in that of their numbers, each over all its places before the next begins: the first test that
- * fails gives the number, and the lowest place at which it fails the place. Tests 12 and 13 alone are made together,
- * node by node in the order of the file: at each node 12 before 13, and the first node at which one fails ends the
- * check. So a 13 at an earlier node comes before a 12 at a later one.
+ * tests for the check, for the calls of the machine, for docket_run_page and for docket_write. The tests are made in
+ * the order of the table, from above, and not in that of their numbers, each over all its places before the next
+ * begins: the first test that fails gives the number, and the lowest place at which it fails the place. Tests 12 and 13
+ * alone are made together, node by node in the order of the file: at each node 12 before 13, and the first node at
+ * which one fails ends the check. So a 13 at an earlier node comes before a 12 at a later one.
  * docket_check and docket_figures return the number times 65,536 plus the place; the others, where a place can be any
  * 32-bit rule number, the number times 2 to the power 32 plus the place. So each has its own pair of functions below
  * that take a refusal apart. A refused call changes neither counts nor output, and neither reads nor writes behind a
- * pointer for answers, figures or the total.
+ * pointer for answers, results, figures or the total.
  *
  * S is the number of states, R of rules, L of layers, N of nodes and K of leaves, as the header of the docket has them.
  * Numbers of states, rules, layers, leaves and nodes begin at 0. docs/FORMAT.md has the whole format.
@@ -73,6 +75,12 @@
  *   23      rule number given     step and can-act: it is R or more
  *   24      rule number given     step: the rule cannot act
  *
+ * docket_run_page, which runs many groups, makes tests 1 to 8 once, then the following two, and then 21 of each group by
+ * itself; a group that 21 refuses does not refuse the call:
+ *
+ *   32      0                     there are no counts, or their number is no multiple of S
+ *   33      0                     the results are not two numbers for each group
+ *
  * docket_write makes tests 2, 31, 3, 5, 6, 7, 14, 8, 11 and 30, in this order: 2 is its first test and 30 its last. Part
  * 0 is the states, 1 the rules, 2 the layers, 3 the nodes and 4 the leaves; S, R, L, N and K are here the numbers of
  * records in the parts, and L and K are 0 where S is 0.
@@ -96,9 +104,9 @@
 extern "C" {
 #endif
 
-#define DOCKET_VERSION "0.8.0"   /* of this header and its library, not of a docket */
+#define DOCKET_VERSION "0.9.0"   /* of this header and its library, not of a docket */
 #define DOCKET_MAX_BYTES 65535   /* a longer file is refused with 1, 0; so read at most one byte more */
-#define DOCKET_MAX_STATES 64     /* counts for every docket fit an array of so many */
+#define DOCKET_MAX_STATES 64     /* the counts of a group of every docket fit an array of so many */
 #define DOCKET_MAX_RULES 256     /* a number for each rule of every docket fits an array of so many */
 #define DOCKET_STACK 65536       /* bytes of stack that are enough for every function */
 
@@ -142,6 +150,21 @@ uint64_t docket_step(const uint8_t *docket, size_t docket_len, uint32_t *counts,
 uint64_t docket_run(const uint8_t *docket, size_t docket_len, uint32_t *counts, size_t counts_len, uint32_t limit,
                     uint64_t *steps, uint64_t *rests);
 
+/* Runs many groups, which make a page, in one call: each as docket_run would run it alone, with at most limit steps.
+   Counts are those of the groups behind each other: group g, from 0 on, has the S counts from counts[g * S] on. There is
+   one group or more, without an upper limit. counts_len is the number of all counts, a multiple of S (docket_states), and
+   results_len that of results, 2 * counts_len / S.
+   Of group g, results[2 * g] is 0, or the number of its refusal, which can be 21 only. results[2 * g + 1] is 0 where the
+   group is refused, else its steps times 2, plus 1 where it rests: so half of it, rounded down, are the steps, and it is
+   odd where the group rests. A group that is refused keeps its counts, and the others are run; the function returns 0
+   also where every group is refused. What results hold before the call is not read.
+   The start test is not made, and no verdict is read: for these call docket_start_test before and docket_verdict
+   afterwards, with counts + g * S and S. While a group that is not refused does not rest, call the function again with the
+   counts it left. Each call writes all results anew, so add the steps up; a group at rest stays as it is and makes none.
+   With an accepted docket one call is enough where limit is at least n times W for the largest group. */
+uint64_t docket_run_page(const uint8_t *docket, size_t docket_len, uint32_t *counts, size_t counts_len, uint32_t limit,
+                         uint64_t *results, size_t results_len);
+
 /* Writes a docket of the given version, 1 or 2. It is lent the parts, which are the bytes of the five sections of that
    version without a header, and the output, out_len bytes at out. The versions differ in the states: 1 byte each in
    version 1, and 3 in version 2, where the number of fixed workers follows; and in the rules, which are to be in order
@@ -158,7 +181,7 @@ uint64_t docket_write(uint32_t version, const uint8_t *states, size_t states_len
                       size_t nodes_len, const uint8_t *leaves, size_t leaves_len, uint8_t *out, size_t out_len,
                       uint64_t *total);
 
-/* The number of states of a docket that passes tests 1 to 8: how many counts the calls of the machine want. */
+/* The number of states of a docket that passes tests 1 to 8: how many counts a group has. */
 static inline size_t docket_states(const uint8_t *docket) { return docket[2] + 256u * docket[3]; }
 
 /* The number and the place of a refusal of docket_check or docket_figures. */
@@ -216,6 +239,10 @@ static inline const char *docket_refusal_text(uint32_t number)
         return "The output is shorter than the docket.";
     case 31:
         return "The length of a part is no whole number of records.";
+    case 32:
+        return "There are no counts, or their number is no multiple of the number of states.";
+    case 33:
+        return "The results are not two numbers for each group.";
     default:
         return "There is no refusal of this number.";
     }

@@ -7,9 +7,11 @@
 //!     bench before ARCHIVE [WORD]
 //!                      times the checks of another libdocket.a, such as that of an earlier commit, and of this one,
 //!                      both loaded as shared objects
+//!     bench apart [WORD]
+//!                      times pages, run by one call of the library and by a call for each group
 //!
 //! Each round times all three, one after the other, over as many repetitions as take some milliseconds. A ratio is the
-//! median of the rounds' ratios: below 1, the proved implementation is the faster one, or this library.
+//! median of the rounds' ratios: below 1, the proved implementation is the faster one, or this library, or the one call.
 
 mod baseline;
 mod loaded;
@@ -40,6 +42,9 @@ fn main() {
     }
     if word == "before" {
         return compare_libraries(&argument(2), &argument(3));
+    }
+    if word == "apart" {
+        return compare_pages(&argument(2));
     }
     println!(
         "{:<52} {:>12} {:>12} {:>6} {:>7}",
@@ -82,15 +87,32 @@ fn compare_libraries(archive: &str, word: &str) {
     println!("{:<52} {:>12} {:>12} {:>6}", "case", "before", "now", "ratio");
     for (name, docket) in checks().iter().filter(|(name, _)| name.contains(word)) {
         assert_eq!(old(docket), new(docket), "{name}: the other library answers otherwise");
-        let mut calls: [Box<dyn FnMut() -> u64>; 2] =
-            [Box::new(|| new(black_box(docket))), Box::new(|| old(black_box(docket)))];
-        let (rounds, repetitions) = rounds(&mut calls);
-        let of = |value: &dyn Fn(&[f64; 2]) -> f64| median(rounds.iter().map(value).collect());
-        let each = 1e9 / repetitions as f64;
-        let (now, before) = (of(&|round| round[0] * each), of(&|round| round[1] * each));
-        let ratio = of(&|round| round[0] / round[1]);
-        println!("{name:<52} {before:>9.1} ns {now:>9.1} ns {ratio:>6.2}");
+        compare(
+            name,
+            1,
+            [Box::new(|| new(black_box(docket))), Box::new(|| old(black_box(docket)))],
+        );
     }
+}
+
+/// Prints, for each page whose name has the word, nanoseconds a group with a call for each group and with one call for
+/// all, and the ratio.
+fn compare_pages(word: &str) {
+    println!("{:<52} {:>12} {:>12} {:>6}", "case", "apart", "page", "ratio");
+    for (name, docket, counts) in pages().iter().filter(|(name, ..)| name.contains(word)) {
+        let calls = [RUN_PAGE[0], run_apart].map(|run_page| page_call(name, docket, counts, run_page));
+        compare(name, GROUPS.into(), calls);
+    }
+}
+
+/// Prints nanoseconds a unit with the second call and with the first, and the ratio of the first to the second.
+fn compare(name: &str, units: u64, mut calls: [Box<dyn FnMut() -> u64 + '_>; 2]) {
+    let (rounds, repetitions) = rounds(&mut calls);
+    let of = |value: &dyn Fn(&[f64; 2]) -> f64| median(rounds.iter().map(value).collect());
+    let each = 1e9 / (repetitions * units) as f64;
+    let (first, second) = (of(&|round| round[0] * each), of(&|round| round[1] * each));
+    let ratio = of(&|round| round[0] / round[1]);
+    println!("{name:<52} {second:>9.1} ns {first:>9.1} ns {ratio:>6.2}");
 }
 
 /// The seconds of each call in each round, and how often a call is made in a round.
@@ -143,6 +165,7 @@ struct Inputs {
     outcomes: Vec<(String, Vec<u8>, Vec<u32>)>,
     starts: Vec<(String, Vec<u8>, Vec<u32>)>,
     pairs: Vec<(String, Vec<u8>, Vec<u32>)>,
+    pages: Vec<(String, Vec<u8>, Vec<u32>)>,
     writes: Vec<(String, Vec<u8>)>,
 }
 
@@ -154,6 +177,7 @@ impl Inputs {
             outcomes: outcomes(),
             starts: starts(),
             pairs: pairs(),
+            pages: pages(),
             writes: writes(),
         }
     }
@@ -177,6 +201,8 @@ impl Inputs {
         cases.extend(starts.map(|(name, docket, counts)| start_case(name, docket, counts)));
         let pairs = self.pairs.iter();
         cases.extend(pairs.map(|(name, docket, counts)| can_act_case(name, docket, counts)));
+        let pages = self.pages.iter();
+        cases.extend(pages.map(|(name, docket, counts)| page_case(name, docket, counts)));
         cases.extend(self.writes.iter().map(|(name, docket)| write_case(name, docket)));
         cases
     }
@@ -418,6 +444,83 @@ fn can_act_case<'a>(name: &str, docket: &'a [u8], counts: &'a [u32]) -> Case<'a>
             Box::new(move || baseline::can_act(black_box(docket), black_box(counts), last).expect("a number")),
             Box::new(move || calls::say(black_box(docket), &mut third, Call::CanAct(last)).answers[0]),
         ],
+    }
+}
+
+const GROUPS: u32 = 300;
+
+/// Pages of large groups and of small ones, with the counts of all groups.
+fn pages() -> Vec<(String, Vec<u8>, Vec<u32>)> {
+    let majority = include_bytes!("../../examples/majority.docket");
+    let maximum = make::maximum(&[0; 10]).bytes();
+    let [_, rules] = ordered_rules().map(|docket| docket.bytes());
+    let page = |name: &str, docket: &[u8], group: &dyn Fn(u32) -> Vec<u32>| {
+        let counts = (0..GROUPS).flat_map(group).collect();
+        (format!("page, {name}"), docket.to_vec(), counts)
+    };
+    vec![
+        page("majority, 2,000 workers", majority, &|g| vec![850 + g, 1_150 - g, 0, 0]),
+        page("majority, 5 workers", majority, &|g| vec![g % 6, 5 - g % 6, 0, 0]),
+        page("maximum, 10 states, 2,000 workers", &maximum, &|_| spread(10, 2_000)),
+        page("maximum, 10 states, 5 workers", &maximum, &|g| five_workers(10, g)),
+        page("v2, 64 states, 256 rules, 5 workers", &rules, &|g| five_workers(64, g)),
+    ]
+}
+
+/// A worker in a state and in four further ones, three apart.
+fn five_workers(states: u32, first: u32) -> Vec<u32> {
+    let occupied = |state| (0..5).any(|worker| (first + 3 * worker) % states == state);
+    (0..states).map(|state| u32::from(occupied(state))).collect()
+}
+
+/// Runs a page by docket, counts, limit and results, and hands back the code.
+type RunPage = fn(&[u8], &mut [u32], u32, &mut [u64]) -> u64;
+
+/// Proved, baseline, second.
+const RUN_PAGE: [RunPage; 3] = [
+    |docket, counts, limit, results| native::run_page(docket, counts, limit, results).code,
+    baseline::run_page_code,
+    |docket, counts, limit, results| calls::run_page(docket, counts, limit, results).code,
+];
+
+/// Runs a page of the proved implementation by a call for each group.
+fn run_apart(docket: &[u8], counts: &mut [u32], limit: u32, results: &mut [u64]) -> u64 {
+    let states = counts.len() * 2 / results.len();
+    for (group, result) in counts.chunks_exact_mut(states).zip(results.chunks_exact_mut(2)) {
+        let said = native::say(docket, group, Call::Run(limit));
+        let [steps, rests] = if said.code == 0 { said.answers } else { [0; 2] };
+        result.copy_from_slice(&[said.code >> 32, 2 * steps + rests]);
+    }
+    0
+}
+
+/// Restores the counts and runs the page; the answer is of its last group. The first call must leave all counts and
+/// results that the calls for each group leave.
+fn page_call<'a>(name: &str, docket: &'a [u8], before: &'a [u32], run_page: RunPage) -> Box<dyn FnMut() -> u64 + 'a> {
+    let page = |run_page: RunPage| {
+        let (mut counts, mut results) = (before.to_vec(), vec![u64::MAX; 2 * GROUPS as usize]);
+        let code = run_page(docket, &mut counts, LIMIT, &mut results);
+        (code, counts, results)
+    };
+    let (code, mut counts, mut results) = page(run_page);
+    assert!(
+        page(run_apart) == (code, counts.clone(), results.clone()),
+        "{name}: the groups apart leave another page"
+    );
+    Box::new(move || {
+        counts.copy_from_slice(black_box(before));
+        let code = run_page(black_box(docket), &mut counts, LIMIT, &mut results);
+        code + u64::from(counts[counts.len() - 1]) + results[results.len() - 1]
+    })
+}
+
+fn page_case<'a>(name: &str, docket: &'a [u8], counts: &'a [u32]) -> Case<'a> {
+    assert!(second::check(docket).is_ok(), "{name}: the docket is not accepted");
+    Case {
+        name: name.into(),
+        unit: "group",
+        units: GROUPS.into(),
+        calls: RUN_PAGE.map(|run_page| page_call(name, docket, counts, run_page)),
     }
 }
 

@@ -7,6 +7,7 @@
 mod docket;
 mod ladder;
 mod machine;
+mod page;
 mod tree;
 mod writer;
 
@@ -15,4 +16,5 @@ pub use docket::{
 };
 pub use ladder::handover;
 pub use machine::{can_act, is_standstill, run, start_test, step, verdict, Ran, Verdict};
+pub use page::run_page;
 pub use writer::write;

@@ -1,6 +1,6 @@
 /*
- * The C boundary: hands every function of docket.h but docket_write exact copies of docket files and of shortened ones,
- * and docket_can_act counts at their limits.
+ * The C boundary: hands every function of docket.h but docket_write and docket_run_page exact copies of docket files and
+ * of shortened ones, and docket_can_act counts at their limits.
  *
  *     boundary FILE.docket...          FILE.expect stands beside each
  *
@@ -14,12 +14,10 @@
 #include <inttypes.h>
 
 enum {
-    HEADER = 24,
     TABLE = HEADER + 2 + RULE + 8 + 12,      /* bytes of a docket with two states, a rule, a layer and a node */
     MOST_LENT = DOCKET_MAX_BYTES + 65536,    /* of what is handed over as a docket */
     MOST_COUNTS = DOCKET_MAX_STATES + 1,
     WORKERS = 1000000,
-    SHOWN = 5,                               /* failures of one file that are shown */
     CALLS = 14,
     FIGURES = 6
 };
@@ -81,18 +79,9 @@ static uint64_t calls_refused_14[FUNCTIONS];
 
 static void lend(struct lent *lent, const char *variant, const uint8_t *bytes, size_t len)
 {
-    uint8_t *block = new_block(len);
-    memcpy(block, bytes, len);
     *lent = (struct lent){.variant = variant, .len = len};
-    lent->copy[HEAP] = block;
-    for (enum kind k = ENDS_AT_GUARD; k < KINDS; k++) {
-        struct region r = docket_regions[k];
-        uint8_t *copy = place(r, k, len);
-        protect(r, PROT_READ | PROT_WRITE);
-        memcpy(copy, bytes, len);
-        protect(r, PROT_READ);
-        lent->copy[k] = copy;
-    }
+    for (enum kind k = HEAP; k < KINDS; k++)
+        lent->copy[k] = new_copy(docket_regions[k], k, bytes, len);
 }
 
 static void expect(struct file *file, const struct lent *lent, const struct call *call, int holds, const char *what)
@@ -266,10 +255,8 @@ static int starts(const struct file *file, const struct lent *lent, size_t len, 
 /* Finds the places of the copies of counts. */
 static void lend_counts(struct counts *counts)
 {
-    size_t size = counts->len * sizeof(uint32_t);
-    counts->copy[HEAP] = new_block(size);
-    for (enum kind k = ENDS_AT_GUARD; k < KINDS; k++)
-        counts->copy[k] = (uint32_t *)(void *)place(counts_regions[k], k, size);
+    for (enum kind k = HEAP; k < KINDS; k++)
+        counts->copy[k] = new_block(counts_regions[k], k, counts->len * sizeof(uint32_t));
 }
 
 /* How many pairs of workers could make the meeting of a rule. */
@@ -405,12 +392,6 @@ static struct expected try_docket(struct file *file, const char *variant, const 
     return said;
 }
 
-static void set16(uint8_t *bytes, size_t at, size_t value)
-{
-    bytes[at] = (uint8_t)(value % 256);
-    bytes[at + 1] = (uint8_t)(value / 256);
-}
-
 /* Cuts the docket behind a node, with number of nodes, offset and total length to match and no leaf. */
 static void try_cut(struct file *file, size_t len)
 {
@@ -523,9 +504,8 @@ static void read_file(struct file *file, const char *name)
     memset(file, 0, sizeof *file);
     file->name = name;
     file->len = read_bytes(name, file->bytes, DOCKET_MAX_BYTES);
-    size_t states = get16(file->bytes, 2);
     size_t rules = get16(file->bytes, 4);
-    file->states = states >= 2 && states <= DOCKET_MAX_STATES ? states : 2;
+    file->states = header_states(file->bytes);
     list_calls(file, rules <= 256 ? (uint32_t)rules : 1);
 }
 
@@ -570,7 +550,7 @@ int main(int argc, char **argv)
         docket_regions[k] = new_region(MOST_LENT);
         counts_regions[k] = new_region(MOST_COUNTS * sizeof(uint32_t));
     }
-    no_access = new_no_access();
+    no_access = new_no_access(FIGURES * sizeof *no_access);
     passed += try_meetings();
     for (int i = 1; i < argc; i++)
         passed += try_file(argv[i]);

@@ -1,6 +1,6 @@
 #!/usr/bin/env bash
 # Tests the C boundary on every docket of a folder: tests/corpus, or the one named. Each docket has its .expect file beside it.
-# boundary.c and writing.c run under AddressSanitizer, stack.c measures the stack, and the library may need memcpy and memset at most.
+# writing.c, page.c and boundary.c run under AddressSanitizer, stack.c measures the stack, and the library may need memcpy and memset at most.
 set -euo pipefail
 corpus=$(realpath -- "${1-$(dirname "$0")/../corpus}")
 cd "$(dirname "$0")/../.."
@@ -40,7 +40,7 @@ passed=$((passed + 1))
 
 gcc "${strict[@]}" -O2 tests/boundary/stack.c "$library" -o "$work/stack"
 add "$work/stack" "$corpus"/*.docket
-for program in writing boundary; do
+for program in writing page boundary; do
   gcc "${strict[@]}" -fsanitize=address,undefined -fno-sanitize-recover=all -g -O1 \
     "tests/boundary/$program.c" "$library" -o "$work/$program"
   add "$work/$program" "$corpus"/*.docket

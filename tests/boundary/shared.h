@@ -1,5 +1,5 @@
-/* What boundary.c, writing.c and stack.c share: the memory that calls are lent, docket files, the numbers of tests 1 to
-   8, rules exchanged, and the texts of refusals. */
+/* What boundary.c, writing.c, page.c and stack.c share: the memory that calls are lent, docket files, the numbers of tests
+   1 to 8, rules exchanged, and refusals with their texts. */
 #ifndef SHARED_H
 #define SHARED_H
 
@@ -14,8 +14,10 @@
 #include "docket.h"
 
 enum {
-    RULE = 5,     /* bytes of the record of a rule */
-    EXCHANGES = 3 /* how many pairs of neighbours exchange_rules can exchange */
+    HEADER = 24,   /* bytes of it */
+    RULE = 5,      /* bytes of the record of a rule */
+    EXCHANGES = 3, /* how many pairs of neighbours exchange_rules can exchange */
+    SHOWN = 5      /* failures of one file that are shown */
 };
 
 /* The kinds of copies that a call is made on: blocks of the heap of exactly the size, for AddressSanitizer; blocks that
@@ -50,26 +52,35 @@ static inline void protect(struct region r, int access)
         stop("mprotect");
 }
 
-/* A page that can be neither read nor written. */
-static inline void *new_no_access(void)
+/* Memory of at least this size that can be neither read nor written. */
+static inline void *new_no_access(size_t size)
 {
-    struct region page = new_region(1);
-    protect(page, PROT_NONE);
-    return page.begin;
+    struct region r = new_region(size);
+    protect(r, PROT_NONE);
+    return r.begin;
 }
 
-/* Where a block of len bytes stands in the region of its kind. */
-static inline uint8_t *place(struct region r, enum kind kind, size_t len)
+/* A block of len bytes of a kind: a new one on the heap, or that in the region of its kind. */
+static inline void *new_block(struct region r, enum kind kind, size_t len)
 {
-    return kind == ENDS_AT_GUARD ? r.begin + r.size - len : r.begin;
-}
-
-static inline void *new_block(size_t len)
-{
+    if (kind != HEAP)
+        return kind == ENDS_AT_GUARD ? r.begin + r.size - len : r.begin;
     void *block = malloc(len > 0 ? len : 1);
     if (block == NULL)
         stop("malloc");
     return block;
+}
+
+/* A block of a kind with these bytes. In a region it stands in pages that cannot be written. */
+static inline uint8_t *new_copy(struct region r, enum kind kind, const uint8_t *bytes, size_t len)
+{
+    uint8_t *copy = new_block(r, kind, len);
+    if (kind != HEAP)
+        protect(r, PROT_READ | PROT_WRITE);
+    memcpy(copy, bytes, len);
+    if (kind != HEAP)
+        protect(r, PROT_READ);
+    return copy;
 }
 
 /* The bytes of a file of at most this size. Returns how many there are. */
@@ -86,11 +97,27 @@ static inline size_t read_bytes(const char *name, uint8_t *bytes, size_t most)
 
 static inline size_t get16(const uint8_t *bytes, size_t at) { return bytes[at] + 256u * bytes[at + 1]; }
 
+static inline void set16(uint8_t *bytes, size_t at, size_t value)
+{
+    bytes[at] = (uint8_t)(value % 256);
+    bytes[at + 1] = (uint8_t)(value / 256);
+}
+
+/* The number of states in the header, or 2 where it is outside its limits. */
+static inline size_t header_states(const uint8_t *bytes)
+{
+    size_t states = get16(bytes, 2);
+    return states >= 2 && states <= DOCKET_MAX_STATES ? states : 2;
+}
+
 /* The length of the record of a state. */
 static inline size_t state_length(size_t version) { return version == 2 ? 3 : 1; }
 
 /* Whether a refusal of this number is one of tests 1 to 8, to which 14 belongs. */
 static inline int is_of_tests_1_to_8(uint32_t number) { return (number >= 1 && number <= 8) || number == 14; }
+
+/* A refusal as every function but docket_check and docket_figures returns it. */
+static inline uint64_t refusal(uint64_t number, uint64_t place) { return (number << 32) + place; }
 
 /* Exchanges two rules that stand next to each other: at the first place, in the middle or at the last one, where which
    is 0, 1 or 2. There are at least two rules. Returns the number of the second of the two. */

@@ -10,7 +10,7 @@
 
 #include <ucontext.h>
 
-enum { STACK = 1 << 20, PATTERN = 0xA5, MOST_BYTES = DOCKET_MAX_BYTES + 1 };
+enum { STACK = 1 << 20, PATTERN = 0xA5, MOST_BYTES = DOCKET_MAX_BYTES + 1, GROUPS = 300 };
 
 static uint8_t stack[STACK];
 static uint8_t docket[MOST_BYTES];
@@ -24,7 +24,7 @@ static void call_check(void)
     docket_figures(docket, docket_len, figures);
 }
 
-/* Makes every call of the machine on a group of two workers in state 0. */
+/* Makes every call of the machine on a group of two workers in state 0; docket_run_page is made below. */
 static void call_machine(void)
 {
     uint32_t counts[DOCKET_MAX_STATES] = {2};
@@ -36,6 +36,17 @@ static void call_machine(void)
     docket_verdict(docket, docket_len, counts, states, &first);
     docket_step(docket, docket_len, counts, states, 0);
     docket_run(docket, docket_len, counts, states, 100, &first, &second);
+}
+
+/* Runs a page of groups with two workers in each state, and refused ones between. */
+static void call_page(void)
+{
+    static uint32_t counts[GROUPS * DOCKET_MAX_STATES];
+    static uint64_t results[2 * GROUPS];
+    size_t states = docket_states(docket);
+    for (size_t i = 0; i < GROUPS * states; i++)
+        counts[i] = i / states % 3 == 1 ? 0 : 2;
+    docket_run_page(docket, docket_len, counts, GROUPS * states, 100, results, 2 * GROUPS);
 }
 
 static size_t offset(size_t section) { return get16(docket, 12 + 2 * section); }
@@ -73,19 +84,23 @@ static size_t greater(size_t a, size_t b) { return a > b ? a : b; }
 
 int main(int argc, char **argv)
 {
-    size_t check = 0, machine = 0, writer = 0;
+    size_t check = 0, machine = 0, page = 0, writer = 0;
     for (int i = 1; i < argc; i++) {
         docket_len = read_bytes(argv[i], docket, sizeof docket);
         check = greater(check, used_by(call_check));
         uint32_t number = docket_check_number(docket_check(docket, docket_len));
-        if (!is_of_tests_1_to_8(number))
+        if (!is_of_tests_1_to_8(number)) {
             machine = greater(machine, used_by(call_machine));
+            page = greater(page, used_by(call_page));
+        }
         if (number == 0 || number > 4)
             writer = greater(writer, used_by(call_writer));
     }
-    printf("docket_check and docket_figures used %zu bytes of stack, the calls of the machine %zu, docket_write %zu\n",
-           check, machine, writer);
-    int good = machine > 0 && writer > 0 && greater(greater(check, machine), writer) <= DOCKET_STACK;
+    printf("docket_check and docket_figures used %zu bytes of stack, docket_run_page %zu, the other calls of the machine "
+           "%zu, docket_write %zu\n",
+           check, page, machine, writer);
+    size_t most = greater(greater(check, page), greater(machine, writer));
+    int good = machine > 0 && page > 0 && writer > 0 && most <= DOCKET_STACK;
     printf("%d passed, %d failed\n", good, !good);
     return good ? 0 : 1;
 }

@@ -14,12 +14,10 @@
 #include <inttypes.h>
 
 enum {
-    HEADER = 24,
     PARTS = 5,
     BEYOND = 100,                            /* the most bytes of an output beyond the total */
     MOST_PART = DOCKET_MAX_BYTES,
-    MOST_ROOM = DOCKET_MAX_BYTES + BEYOND,
-    SHOWN = 5                                /* failures of one file that are shown */
+    MOST_ROOM = DOCKET_MAX_BYTES + BEYOND
 };
 
 /* The version and the parts as they are before each call. */
@@ -62,8 +60,6 @@ static void expect(struct file *file, size_t room, int holds, const char *what)
     if (!holds && file->failures++ < SHOWN)
         printf("%s: %s, output of %zu bytes: %s\n", file->name, file->variant, room, what);
 }
-
-static uint64_t refusal(uint64_t number, uint64_t place) { return (number << 32) + place; }
 
 static uint64_t make(const struct lent *lent, uint8_t *output, size_t room, uint64_t *total)
 {
@@ -137,10 +133,8 @@ static uint64_t try_kind(struct file *file, const struct parts *parts, const str
 /* The output in a kind of copy. The total on the heap is a block of its own. */
 static struct output lend_output(enum kind kind, size_t room)
 {
-    if (kind == HEAP)
-        return (struct output){new_block(room), room, new_block(sizeof(uint64_t))};
-    uint8_t *total = place(total_regions[kind], kind, sizeof(uint64_t));
-    return (struct output){place(output_regions[kind], kind, room), room, (uint64_t *)(void *)total};
+    uint64_t *total = new_block(total_regions[kind], kind, sizeof *total);
+    return (struct output){new_block(output_regions[kind], kind, room), room, total};
 }
 
 /* Makes the call on every kind of copies, and compares what came of it. */
@@ -165,16 +159,8 @@ static uint64_t try_room(struct file *file, const struct parts *parts, const str
 static struct lent lend(const struct parts *parts, enum kind kind)
 {
     struct lent lent = {.version = parts->version, .len = parts->len};
-    for (size_t p = 0; p < PARTS; p++) {
-        struct region r = part_regions[kind][p];
-        uint8_t *copy = kind == HEAP ? new_block(parts->len[p]) : place(r, kind, parts->len[p]);
-        if (kind != HEAP)
-            protect(r, PROT_READ | PROT_WRITE);
-        memcpy(copy, parts->bytes[p], parts->len[p]);
-        if (kind != HEAP)
-            protect(r, PROT_READ);
-        lent.part[p] = copy;
-    }
+    for (size_t p = 0; p < PARTS; p++)
+        lent.part[p] = new_copy(part_regions[kind][p], kind, parts->bytes[p], parts->len[p]);
     return lent;
 }
 
@@ -380,7 +366,7 @@ static int try_lengths(void)
 int main(int argc, char **argv)
 {
     int passed = 0, failed = 0;
-    no_access = new_no_access();
+    no_access = new_no_access(MOST_ROOM);
     for (enum kind k = ENDS_AT_GUARD; k < KINDS; k++) {
         for (size_t p = 0; p < PARTS; p++)
             part_regions[k][p] = new_region(MOST_PART);

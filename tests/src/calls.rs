@@ -1,4 +1,4 @@
-//! A call of the machine or of the writer, and what it says in the terms of `docket.h`.
+//! A call of the machine, on a group or on a page, or of the writer, and what it says in the terms of `docket.h`.
 
 use second::{Ran, Refusal, Verdict};
 
@@ -73,6 +73,11 @@ pub fn say(docket: &[u8], counts: &mut [u32], call: Call) -> Said {
         Call::Run(limit) => second::run(docket, counts, limit).map(|ran| Said::done(&ran_numbers(ran))),
     };
     said.unwrap_or_else(Said::refused)
+}
+
+/// What the second implementation says to a page, as docket_run_page says it: there is no answer beside the results.
+pub fn run_page(docket: &[u8], counts: &mut [u32], limit: u32, results: &mut [u64]) -> Said {
+    second::run_page(docket, counts, limit, results).map_or_else(Said::refused, |()| Said::done(&[]))
 }
 
 /// What the writer of the second implementation says, as docket_write says it: the total is the first answer.

@@ -3,10 +3,12 @@
 pub mod calls;
 pub mod damage;
 pub mod fixed;
+pub mod groups;
 pub mod make;
 pub mod native;
 pub mod order;
 pub mod outcomes;
+pub mod pages;
 pub mod pairs;
 pub mod parts;
 pub mod prover;

@@ -11,17 +11,19 @@ use std::io::Write;
 use std::path::{Path, PathBuf};
 use std::process::{Command, Stdio};
 use tests::calls::{self, check_code, Call, Said};
+use tests::groups::random_counts;
 use tests::make::{fixed, remainder};
 use tests::random::Random;
 use tests::tally::Tally;
-use tests::{damage, fixed as fixed_agents, make, native, order, outcomes, pairs, parts, prover, remainders, samples};
-use tests::{versions, writing};
+use tests::{damage, fixed as fixed_agents, make, native, order, outcomes, pages, pairs, parts, prover, remainders};
+use tests::{samples, versions, writing};
 
 const THREADS: u64 = 2;
 const DOCKETS: u64 = 400_000;
 const LISTS: u64 = 100_000;
 const WRITES: u64 = 150_000;
 const GROUPS: u64 = 30_000;
+const PAGES: u64 = 20_000;
 const LINES: u64 = 4_000;
 
 /// One of so many dockets of version 1, and of lists of calls on them, is tried in version 2 too.
@@ -54,7 +56,8 @@ fn main() {
     let mut results = Results { passed: 0, failed: 0 };
     run_samples(&mut results);
     let corpus = run_corpus(&mut results);
-    run_written(&mut results);
+    run_cases(&mut results, "writer", 36, writing::case_problem);
+    run_cases(&mut results, "page", 18, pages::case_problem);
     let pool = Pool::new(seed, corpus);
     println!(
         "{} accepted dockets to begin with, of them {} of version 2 and {} large",
@@ -67,6 +70,10 @@ fn main() {
     report(&tally);
     results.expect("both implementations say the same", first_of(&tally.differences));
     results.expect("the library keeps the laws of pairs", first_of(&tally.pairs.broken));
+    results.expect(
+        "the library runs a page as its groups one by one",
+        first_of(&tally.pages.broken),
+    );
     let missing = tally.not_reached();
     results.expect(
         "the inputs reach every test",
@@ -103,6 +110,7 @@ fn report(tally: &Tally) {
     report_fixed(tally);
     report_order(tally);
     report_pairs(tally);
+    report_pages(tally);
     report_writes(tally);
 }
 
@@ -175,6 +183,18 @@ fn report_pairs(tally: &Tally) {
     );
 }
 
+fn report_pages(tally: &Tally) {
+    let pages = &tally.pages;
+    println!(
+        "pages by refusal (0: run): {:?}; run by version and groups (3: other numbers): {:?}; refused by lengths of counts and results: {:?}",
+        pages.calls, pages.numbers, pages.lengths
+    );
+    println!(
+        "groups of pages by version, place and end: {:?}; by least limit and end: {:?}; by refusal and workers: {:?}",
+        pages.groups, pages.limits, pages.workers
+    );
+}
+
 /// How many problems there are, and the first five of them.
 fn first_of(problems: &[String]) -> Option<String> {
     let shown: Vec<String> = problems.iter().take(5).cloned().collect();
@@ -208,6 +228,9 @@ fn run_samples(results: &mut Results) {
     for (name, docket) in pairs::tables() {
         let problem = pairs::problem_at_limits(&native::say, &docket);
         results.expect(&format!("pairs at limits: {name}"), problem);
+    }
+    for (name, problem) in pages::samples() {
+        results.expect(&format!("page: {name}"), problem);
     }
     for (name, problem) in writing::samples() {
         results.expect(&format!("writer: {name}"), problem);
@@ -305,18 +328,15 @@ fn run_corpus(results: &mut Results) -> Vec<Docket> {
     accepted
 }
 
-/// The least number of cases of the writer in the corpus.
-const CASES: usize = 36;
-
-/// Runs the writer's cases of the corpus.
-fn run_written(results: &mut Results) {
-    let file = Path::new(env!("CARGO_MANIFEST_DIR")).join("corpus/writer.txt");
-    let text = std::fs::read_to_string(&file).expect("the writer's cases");
+/// Runs a file of the corpus that has a case in each line, at least so many.
+fn run_cases(results: &mut Results, name: &str, least: usize, problem: fn(&str) -> Option<String>) {
+    let folder = Path::new(env!("CARGO_MANIFEST_DIR")).join("corpus");
+    let text = std::fs::read_to_string(folder.join(format!("{name}.txt"))).expect("a file of cases");
     let cases: Vec<&str> = text.lines().filter(|line| !line.starts_with('#')).collect();
-    let missing = (cases.len() < CASES).then(|| format!("{} of at least {CASES} cases", cases.len()));
-    results.expect("the writer's cases are whole", missing);
+    let missing = (cases.len() < least).then(|| format!("{} of at least {least} cases", cases.len()));
+    results.expect(&format!("the cases of {name}.txt are whole"), missing);
     for case in cases {
-        results.expect(&format!("writer: {case}"), writing::case_problem(case));
+        results.expect(&format!("{name}: {case}"), problem(case));
     }
 }
 
@@ -345,8 +365,7 @@ impl Pool {
                 .filter_map(|_| prover::random_fixed(&mut random))
                 .filter(|docket| docket.nodes.len() > 2),
         );
-        let is_large = |docket: &Docket| docket.nodes.len() > 300 || docket.rules.len() > 150;
-        let (large, small) = all.into_iter().partition(is_large);
+        let (large, small) = all.into_iter().partition(make::is_large);
         Pool { small, large }
     }
 
@@ -375,6 +394,15 @@ impl Pool {
             4 | 5 => damage::damaged(&damage::rewritten(docket, random), random),
             6 => damage::other_fixed(docket, random),
             _ => damage::damaged(docket, random),
+        }
+    }
+
+    /// A docket's bytes for calls of the machine: most often as they are.
+    fn input_of_calls(&self, random: &mut Random) -> Vec<u8> {
+        match random.below(8) {
+            0 => self.input(random),
+            1 | 2 => damage::rewritten(self.draw(random), random).bytes(),
+            _ => self.draw(random).bytes(),
         }
     }
 }
@@ -494,6 +522,9 @@ fn compare_some(pool: &Pool, mut random: Random, times: u64) -> Tally {
     for _ in 0..GROUPS * times {
         compare_pairs(&mut tally, pool, &mut random);
     }
+    for _ in 0..PAGES * times {
+        compare_page(&mut tally, pool, &mut random);
+    }
     tally
 }
 
@@ -556,11 +587,7 @@ fn compare_write(tally: &mut Tally, pool: &Pool, random: &mut Random) {
 
 /// A list of calls on one group: each is lent the counts that the one before left.
 fn compare_list(tally: &mut Tally, pool: &Pool, random: &mut Random) {
-    let docket = match random.below(8) {
-        0 => pool.input(random),
-        1 | 2 => damage::rewritten(pool.draw(random), random).bytes(),
-        _ => pool.draw(random).bytes(),
-    };
+    let docket = pool.input_of_calls(random);
     let parsed = second::parse(&docket).ok();
     let states = parsed.as_ref().map_or(random.below(66), |docket| docket.states.len());
     let rules = parsed.as_ref().map_or(0, |docket| docket.rules.len());
@@ -600,10 +627,33 @@ fn compare_pairs(tally: &mut Tally, pool: &Pool, random: &mut Random) {
         tally.differ(&docket.bytes(), difference);
     }
     if let Some(law) = pairs::broken_law(&native::say, docket, &counts) {
-        tally.break_law(&docket.bytes(), format!("{counts:?}: not so that {law}"));
+        tally.break_pairs(&docket.bytes(), format!("{counts:?}: not so that {law}"));
     }
     let numbers = pairs::numbers(&native::say, docket, &counts);
     tally.pairs.count(docket, &counts, &numbers);
+}
+
+/// The groups of a page, in one call and one by one.
+fn compare_page(tally: &mut Tally, pool: &Pool, random: &mut Random) {
+    let docket = if random.chance(1, 2) {
+        pool.input(random)
+    } else {
+        pool.input_of_calls(random)
+    };
+    let parsed = second::parse(&docket).ok();
+    let page = pages::random_page(parsed.as_ref(), random);
+    let before = docket.clone();
+    let done = pages::outcome(&native::run_page, &docket, &page);
+    if before != docket {
+        tally.differ(&before, "a page changes the docket".into());
+    }
+    if let Some(difference) = pages::difference(&docket, &page, &done) {
+        tally.differ(&docket, difference);
+    }
+    if let Some(law) = pages::broken_law(&native::say, &docket, &page, &done) {
+        tally.break_page(&docket, law);
+    }
+    tally.pages.count(parsed.as_ref(), &page, &done);
 }
 
 /// Makes a call in version 2 too, which in version 1 says this and leaves these counts. Hands back whether it says and
@@ -630,44 +680,6 @@ fn compare_converted(
         None => tally.fixed.converted_calls += 1,
     }
     true
-}
-
-/// The counts of a start or nearly so, or any; now and then of a wrong length or of a size at a limit or past it.
-fn random_counts(docket: Option<&Docket>, states: usize, random: &mut Random) -> Vec<u32> {
-    let is_start = random.chance(2, 3);
-    let most = *random.pick(&[2, 3, 6, 30, 300]);
-    let mut counts: Vec<u32> = match docket {
-        Some(docket) if is_start => start_counts(docket, most, random),
-        _ => (0..states).map(|_| random.below(most) as u32).collect(),
-    };
-    match random.below(16) {
-        0 => counts.truncate(random.below(states + 1)),
-        1 => counts.push(random.below(3) as u32),
-        2 if states > 0 => counts[random.below(states)] = *random.pick(&[999_999, 1_000_000, 1_000_001, u32::MAX]),
-        3 => counts.fill(0),
-        4 if states > 0 => {
-            counts.fill(0);
-            counts[random.below(states)] = 1_000_000;
-        }
-        _ => {}
-    }
-    counts
-}
-
-/// The fixed agents, and any number more in input states; in a third of the cases one state has one agent more or less,
-/// or none.
-fn start_counts(docket: &Docket, most: usize, random: &mut Random) -> Vec<u32> {
-    let mut more = |input: bool| if input { random.below(most) as u32 } else { 0 };
-    let states = docket.states.iter();
-    let mut counts: Vec<u32> = states.map(|state| state.fixed as u32 + more(state.input)).collect();
-    let count = &mut counts[random.below(docket.states.len())];
-    match random.below(9) {
-        0 => *count += 1,
-        1 => *count = count.saturating_sub(1),
-        2 => *count = 0,
-        _ => {}
-    }
-    counts
 }
 
 fn random_call(rules: usize, random: &mut Random) -> Call {

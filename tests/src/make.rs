@@ -291,6 +291,11 @@ fn one_state_leaf(states: usize, weight: i64) -> Leaf {
     }
 }
 
+/// Whether a check or a call of this docket takes as long as those of a thousand small ones.
+pub fn is_large(docket: &Docket) -> bool {
+    docket.nodes.len() > 300 || docket.rules.len() > 150
+}
+
 /// No rule at all: every group is at a standstill, and all states have verdict 0.
 pub fn still(states: usize) -> Docket {
     Docket {

@@ -37,6 +37,15 @@ extern "C" {
         steps: *mut u64,
         rests: *mut u64,
     ) -> u64;
+    fn docket_run_page(
+        docket: *const u8,
+        docket_len: usize,
+        counts: *mut u32,
+        counts_len: usize,
+        limit: u32,
+        results: *mut u64,
+        results_len: usize,
+    ) -> u64;
     fn docket_figures(docket: *const u8, docket_len: usize, figures: *mut u64) -> u64;
     fn docket_write(
         version: u32,
@@ -88,6 +97,19 @@ pub fn say(docket: &[u8], counts: &mut [u32], call: Call) -> Said {
         }
     };
     Said { code, answers }
+}
+
+/// What docket_run_page says; the counts and the results are lent as they are.
+pub fn run_page(docket: &[u8], counts: &mut [u32], limit: u32, results: &mut [u64]) -> Said {
+    let (d, n) = (docket.as_ptr(), docket.len());
+    let (c, m) = (counts.as_mut_ptr(), counts.len());
+    let (r, k) = (results.as_mut_ptr(), results.len());
+    // SAFETY: each pointer and length are those of one slice, the counts and the results are writable, and none overlap.
+    let code = unsafe { docket_run_page(d, n, c, m, limit, r, k) };
+    Said {
+        code,
+        ..Said::done(&[])
+    }
 }
 
 /// What docket_write says; the output is lent as it is.

@@ -2,12 +2,14 @@
 
 mod fixed;
 mod order;
+mod pages;
 mod pairs;
 mod writes;
 
 use crate::calls::{is_of_tests_1_to_8, Call, Said};
 use fixed::Fixed;
 use order::Order;
+pub use pages::Pages;
 pub use pairs::Pairs;
 use second::Refusal;
 use std::collections::{BTreeMap, BTreeSet};
@@ -41,6 +43,7 @@ pub struct Tally {
     pub fixed: Fixed,
     pub order: Order,
     pub pairs: Pairs,
+    pub pages: Pages,
     pub writes: Writes,
     /// What was said to the inputs on which the two implementations differ.
     pub differences: Vec<String>,
@@ -108,8 +111,12 @@ impl Tally {
         self.differences.push(of_docket(docket, &what));
     }
 
-    pub fn break_law(&mut self, docket: &[u8], what: String) {
+    pub fn break_pairs(&mut self, docket: &[u8], what: String) {
         self.pairs.broken.push(of_docket(docket, &what));
+    }
+
+    pub fn break_page(&mut self, docket: &[u8], what: String) {
+        self.pages.broken.push(of_docket(docket, &what));
     }
 
     pub fn merge(&mut self, other: Tally) {
@@ -132,13 +139,14 @@ impl Tally {
         self.fixed.merge(other.fixed);
         self.order.merge(other.order);
         self.pairs.merge(other.pairs);
+        self.pages.merge(other.pages);
         self.writes.merge(other.writes);
         self.differences.extend(other.differences);
     }
 
     /// What the inputs failed to reach: several places with every refusal that has them, some last places, every kind of
     /// node and some moduli, half of the dockets past tests 1 to 8, a tenth of them accepted, tables in which a pair has
-    /// several rules, version 2, rules out of order, numbers of pairs, and what the writer can say.
+    /// several rules, version 2, rules out of order, numbers of pairs, pages, and what the writer can say.
     pub fn not_reached(&self) -> Vec<String> {
         let mut missing = places_not_reached(&self.places, &LEAST_PLACES, &LAST_PLACES);
         if 2 * self.pass_shape < self.dockets {
@@ -152,6 +160,7 @@ impl Tally {
         missing.extend(self.fixed.not_reached());
         missing.extend(self.order.not_reached());
         missing.extend(self.pairs.not_reached());
+        missing.extend(self.pages.not_reached());
         missing.extend(self.writes.not_reached());
         missing
     }

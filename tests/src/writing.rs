@@ -6,6 +6,7 @@ use crate::native;
 use crate::parts::{slices, total, Parts};
 use crate::tally::hex;
 use second::Refusal;
+use std::fmt::Debug;
 
 /// A name, the parts, the length of the output, and what is said. The parts are those of the broadcast, of the least or
 /// of the largest docket, or of one of version 2: the broadcast of fixed agents, the least or the largest one; those that
@@ -303,7 +304,8 @@ pub fn write_again(docket: &[u8]) -> Result<bool, String> {
     Ok(written)
 }
 
-fn first_difference(one: &[u8], other: &[u8]) -> String {
+/// What two lists hold at the first place where they differ.
+pub fn first_difference<T: Debug + PartialEq>(one: &[T], other: &[T]) -> String {
     let at = one.iter().zip(other).position(|(a, b)| a != b).unwrap_or(0);
     format!("{:?} and {:?} at {at}", one.get(at), other.get(at))
 }
@@ -375,7 +377,8 @@ fn repeated(text: &str) -> Vec<u8> {
     from_hex(bytes).repeat(times.parse().expect("how often"))
 }
 
-fn from_hex(text: &str) -> Vec<u8> {
+/// The bytes of a text of two digits each; `-` is none.
+pub fn from_hex(text: &str) -> Vec<u8> {
     let digits = text.trim_matches('-').as_bytes();
     let byte = |pair: &[u8]| u8::from_str_radix(&String::from_utf8_lossy(pair), 16).expect("a byte");
     digits.chunks(2).map(byte).collect()

@@ -8,6 +8,11 @@ pub fn size_test(docket: &Docket, counts: &[u32]) -> Result<(), Refusal> {
     if counts.len() != docket.states.len() {
         return refuse(20, 0);
     }
+    sum_test(counts)
+}
+
+/// Test 21.
+fn sum_test(counts: &[u32]) -> Result<(), Refusal> {
     let size: u64 = counts.iter().map(|&count| u64::from(count)).sum();
     if (2..=1_000_000).contains(&size) {
         Ok(())
@@ -100,4 +105,26 @@ pub fn run(docket: &Docket, counts: &mut [u32], limit: u32) -> (u64, bool) {
         chosen = choose(docket, counts);
     }
     (u64::from(steps), chosen.is_none())
+}
+
+/// Tests 32 and 33, then the run of each group, in its own stretch of the counts, with its two results.
+pub fn run_page(docket: &Docket, counts: &mut [u32], limit: u32, results: &mut [u64]) -> Result<(), Refusal> {
+    let states = docket.states.len();
+    if counts.is_empty() || counts.len() % states != 0 {
+        return refuse(32, 0);
+    }
+    if results.len() != counts.len() / states * 2 {
+        return refuse(33, 0);
+    }
+    let (results, _) = results.as_chunks_mut();
+    for (group, result) in counts.chunks_exact_mut(states).zip(results) {
+        *result = match sum_test(group) {
+            Ok(()) => {
+                let (steps, rests) = run(docket, group, limit);
+                [0, 2 * steps + u64::from(rests)]
+            }
+            Err(refusal) => [u64::from(refusal.number), 0],
+        };
+    }
+    Ok(())
 }

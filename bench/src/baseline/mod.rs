@@ -82,3 +82,8 @@ pub fn run(docket: &[u8], counts: &mut [u32], limit: u32) -> Result<(u64, bool),
     machine::size_test(&docket, counts)?;
     Ok(machine::run(&docket, counts, limit))
 }
+
+/// What `docket_run_page` returns.
+pub fn run_page_code(docket: &[u8], counts: &mut [u32], limit: u32, results: &mut [u64]) -> u64 {
+    call_code(Docket::read(docket).and_then(|docket| machine::run_page(&docket, counts, limit, results)))
+}

@@ -7,7 +7,8 @@ ghost use Rattle.format.specs.Format.{sections};
 ghost use Rattle.checker.specs.Check.{checkOf};
 ghost use Rattle.writer.specs.Write.{writeOf, outputOf};
 ghost use Rattle.machine.specs.Calls.{startOf, pairsOf, terminalOf, verdictOf, replyOf, countsOf};
-ghost use Rattle.codes.specs.Codes.{checkCode, checkFigures, writeCode, writeTotal, startCode};
+ghost use Rattle.page.specs.Page.{pageOf, countsAfterPage, resultsAfterPage};
+ghost use Rattle.codes.specs.Codes.{checkCode, checkFigures, writeCode, writeTotal, startCode, pageCode};
 ghost use Rattle.codes.specs.Codes.{pairsCode, pairsValue, yesNoCode, yesNoValue, verdictCode, verdictValue, replyCode, replySteps, replyRests};
 use checker::Checked;
 use machine::Pairs;
@@ -168,4 +169,19 @@ pub extern "C" fn docket_run(
         }
         Ran::Refused(r) => codes::call_refusal(r),
     }
+}
+
+// A run of each group of a page, each of at most `limit` steps, and two results for each.
+#[no_mangle]
+pub extern "C" fn docket_run_page(
+    docket: &[u8],
+    counts: &mut [u32],
+    limit: u32,
+    results: &mut [u64],
+) -> u64
+    ensures code { λ r. ⌜ r ≡ pageCode (pageOf (now (docket .entry)) (now (counts .entry)) (now (results .entry))) ⌝ }
+    ensures counts { λ _. ⌜ now (counts .exit) ≡ countsAfterPage (now (docket .entry)) (now (counts .entry)) limit (now (results .entry)) ⌝ }
+    ensures results { λ _. ⌜ now (results .exit) ≡ resultsAfterPage (now (docket .entry)) (now (counts .entry)) limit (now (results .entry)) ⌝ }
+{
+    codes::page_code(page::run_page(docket, counts, limit, results))
 }

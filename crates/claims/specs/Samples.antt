@@ -32,18 +32,22 @@ use Rattle.machine.specs.declared.Started.the-variants as started
 use Rattle.machine.specs.declared.Pairs.{Pairs}
 use Rattle.machine.specs.declared.Pairs.the-variants as paired
 use Rattle.machine.specs.declared.Verdict.the-variants.{Agreed}
+use Rattle.page.specs.Page.{eachPart, pageOf, countsAfterPage, resultsAfterPage}
+use Rattle.page.specs.declared.Paged.{Paged}
+use Rattle.page.specs.declared.Paged.the-variants as paged
 use Rattle.claims.specs.OfDocket.{Rules, Demand3}
 use Rattle.claims.specs.OfWriter.{Readable, Wrote}
 use Rattle.claims.specs.OfVersions.{widened, inVersion2}
 use Rattle.claims.specs.OfOrder.{RulesAmong, SoundVersion2}
 use Rattle.claims.specs.OfPairs.{PairsTell}
+use Rattle.claims.specs.OfPage.{PagesSettle}
 use Rattle.claims.specs.Claims.Proved.{claims}
 use Rattle.claims.specs.Dockets.OneLayer.{one-layer}
 use Rattle.claims.specs.Dockets.{cut, longer, exchanged, withoutAbsent, oneLayer, inputFixed}
 
 -- A sample: what the check says of a docket; what a run with the greatest limit does from given counts; what the check says
 -- whatever the weights; what the writer of a version says of sections, and what it leaves in the output; what the start test
--- says; what the can-act call says of a rule number.
+-- says; what the can-act call says of a rule number; what a page with this limit says, and the counts and results that it leaves.
 pub data Sample : Type 0 where
   says : List ℕ → Checked → Sample
   rests : List ℕ → List ℕ → ℕ → List ℕ → Bool → Sample
@@ -51,6 +55,7 @@ pub data Sample : Type 0 where
   writes : ℕ → Sections → List ℕ → Written → List ℕ → Sample
   starts : List ℕ → List ℕ → Started → Sample
   meets : List ℕ → List ℕ → ℕ → Pairs → Sample
+  pages : List ℕ → List ℕ → ℕ → List ℕ → Paged → List ℕ → List ℕ → Sample
 
 abbrev pub Holds : Sample → Type 0
 -- The check of b answers a.
@@ -69,6 +74,8 @@ Holds (writes v x out a d) = (writeOf v x (length out) ≡ a) × (outputOf v x o
 Holds (starts b c a) = startOf b c ≡ a
 -- The can-act call on b, of the counts c and rule number r, answers a.
 Holds (meets b c r a) = pairsOf b c r ≡ a
+-- The page call on b, of the counts c and the results r, answers a and leaves d and e.
+Holds (pages b c limit r a d e) = (pageOf b c r ≡ a) × (countsAfterPage b c limit r ≡ d) × (resultsAfterPage b c limit r ≡ e)
 
 abbrev pub AllHold : List Sample → Type 0
 AllHold [] = Unit {0}
@@ -181,10 +188,26 @@ pairsCounted =
     ∷ meets twoOutcomes (2 ∷ 3 ∷ 0 ∷ []) 1 (paired.Number 6)
     ∷ []
 
+-- Samples of document 02, Job 8, on majority: the groups of P8 and P9 with one of a single agent between them and one at a standstill
+-- behind them; the first again with the limits 1 and 0; then 32, of counts one too many, of none, and before 33; 33; and a refusal of
+-- test 1.
+abbrev pub pagesRun : List Sample
+pagesRun =
+    pages majority (2 ∷ 1 ∷ 0 ∷ 0 ∷ 1 ∷ 0 ∷ 0 ∷ 0 ∷ 1 ∷ 1 ∷ 0 ∷ 0 ∷ 0 ∷ 3 ∷ 0 ∷ 0 ∷ []) 6 (replicate 8 7) paged.Done
+    (1 ∷ 0 ∷ 2 ∷ 0 ∷ 1 ∷ 0 ∷ 0 ∷ 0 ∷ 0 ∷ 0 ∷ 0 ∷ 2 ∷ 0 ∷ 3 ∷ 0 ∷ 0 ∷ []) (0 ∷ 5 ∷ 21 ∷ 0 ∷ 0 ∷ 5 ∷ 0 ∷ 1 ∷ [])
+    ∷ pages majority (2 ∷ 1 ∷ 0 ∷ 0 ∷ []) 1 (replicate 2 7) paged.Done (1 ∷ 0 ∷ 1 ∷ 1 ∷ []) (0 ∷ 2 ∷ [])
+    ∷ pages majority (2 ∷ 1 ∷ 0 ∷ 0 ∷ []) 0 (replicate 2 7) paged.Done (2 ∷ 1 ∷ 0 ∷ 0 ∷ []) (0 ∷ 0 ∷ [])
+    ∷ pages majority (2 ∷ 1 ∷ 0 ∷ 0 ∷ 2 ∷ []) 6 (replicate 2 7) (paged.Refused (refusal 32 0)) (2 ∷ 1 ∷ 0 ∷ 0 ∷ 2 ∷ []) (replicate 2 7)
+    ∷ pages majority [] 6 [] (paged.Refused (refusal 32 0)) [] []
+    ∷ pages majority (2 ∷ 1 ∷ 0 ∷ []) 6 (replicate 3 7) (paged.Refused (refusal 32 0)) (2 ∷ 1 ∷ 0 ∷ []) (replicate 3 7)
+    ∷ pages majority (2 ∷ 1 ∷ 0 ∷ 0 ∷ []) 6 (replicate 3 7) (paged.Refused (refusal 33 0)) (2 ∷ 1 ∷ 0 ∷ 0 ∷ []) (replicate 3 7)
+    ∷ pages (take 98 broadcast) (2 ∷ 1 ∷ []) 6 (replicate 2 7) (paged.Refused (refusal 1 0)) (2 ∷ 1 ∷ []) (replicate 2 7)
+    ∷ []
+
 -- The names that samples unfold.
 unfoldable sampling : ℕ
 unfolding writing shaping walking calling widened badLeaf sectionsCheck checkOf replyOf countsOf verdictOf verdictAnswer startOf startAnswer
-    pairsOf pairsAnswer
+    pairsOf pairsAnswer eachPart pageOf countsAfterPage resultsAfterPage
 sampling = 0
 
 pub samples-hold : AllHold samples
@@ -210,6 +233,31 @@ order-holds = (refl, (refl, (refl, (refl, (refl, (refl, ((refl, refl), ((refl, r
 pub pairs-hold : AllHold pairsCounted
 unfolding sampling
 pairs-hold = (refl, (refl, (refl, (refl, (refl, (refl, (refl, (refl, (refl, (refl, (refl, (refl, (refl, tt)))))))))))))
+
+pub pages-hold : AllHold pagesRun
+unfolding sampling
+pages-hold = (
+  (refl, refl, refl),
+  (
+    (refl, refl, refl),
+    (
+      (refl, refl, refl),
+      (
+        (refl, refl, refl),
+        (
+          (refl, refl, refl),
+          (
+            (refl, refl, refl),
+            (
+              (refl, refl, refl),
+              ((refl, refl, refl), tt),
+            ),
+          ),
+        ),
+      ),
+    ),
+  ),
+)
 
 -- So demand 3 holds of a docket in which a pair has two outcomes: what it says of rest and verdict is not empty there.
 pub outcomes-settle : (c : List ℕ) → Demand3 twoOutcomes (headerOf twoOutcomes) c
@@ -267,3 +315,8 @@ parity-sound =
 
 pub parity-pairs : (c : List ℕ) → admitted (protocolIn parity (headerOf parity)) c ≡ true → PairsTell parity (headerOf parity) c
 parity-pairs = claims .of-pairs .tell parity (headerOf parity) parity-sound
+
+-- Demand 3 holds of the third group of the page of majority above, whatever the limits are.
+pub majority-page : PagesSettle majority (headerOf majority) (2 ∷ 1 ∷ 0 ∷ 0 ∷ 1 ∷ 0 ∷ 0 ∷ 0 ∷ 1 ∷ 1 ∷ 0 ∷ 0 ∷ 0 ∷ 3 ∷ 0 ∷ 0 ∷ []) (replicate 8 7) 2
+unfolding shaping
+majority-page = claims .of-page .settles majority (_, samples-hold .1 .1 .1 .1 .1 .1 .1 .1 .1 .1 .1 .0) _ _ (pages-hold .0 .0) 2 (omega arith)

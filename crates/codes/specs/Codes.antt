@@ -17,6 +17,8 @@ use Rattle.machine.specs.declared.YesNo.{YesNo}
 use Rattle.machine.specs.declared.YesNo.the-variants as yesNo
 use Rattle.machine.specs.declared.Verdict.{Verdict}
 use Rattle.machine.specs.declared.Verdict.the-variants as shown
+use Rattle.page.specs.declared.Paged.{Paged}
+use Rattle.page.specs.declared.Paged.the-variants as paging
 pub mod Laws
 
 -- ---- Refusals
@@ -41,6 +43,11 @@ checkCode (checked.Refused r) = code r
 abbrev pub writeCode : Written → ℕ
 writeCode (writing.Total n) = 0
 writeCode (writing.Refused r) = callCode r
+
+-- The page. A group's own refusal is among the results, and not here.
+abbrev pub pageCode : Paged → ℕ
+pageCode paging.Done = 0
+pageCode (paging.Refused r) = callCode r
 
 abbrev pub startCode : Started → ℕ
 startCode started.Start = 0

@@ -1,14 +1,15 @@
-// The numbers that C is handed: refusals, yes and no, the figures of an accepted docket, and what the check, the start test
-// and a step return.
+// The numbers that C is handed: refusals, yes and no, the figures of an accepted docket, and what the check, the start test,
+// a step and a page return.
 ghost use mathlib.Core.Path.{_≡_};
 ghost use mathlib.Core.List.{[], _∷_};
 ghost use Rattle.theory.specs.Bool.{bit};
 ghost use Rattle.machine.specs.Code.{replyOfStep};
-ghost use Rattle.codes.specs.Codes.{code, callCode, checkCode, startCode, replyCode};
+ghost use Rattle.codes.specs.Codes.{code, callCode, checkCode, startCode, replyCode, pageCode};
 use checker::Checked;
 use checker::Summary;
 use machine::Started;
 use machine::Stepped;
+use page::Paged;
 use shape::Refusal;
 
 // A refusal of the check: its number in front of 16 bits for its place.
@@ -73,5 +74,15 @@ pub fn step_code(a: Stepped) -> u64
     match a {
         Stepped::Done => 0,
         Stepped::Refused(r) => call_refusal(r),
+    }
+}
+
+// What a page returns.
+pub fn page_code(a: Paged) -> u64
+    ensures { λ n. ⌜ n ≡ pageCode a ⌝ }
+{
+    match a {
+        Paged::Done => 0,
+        Paged::Refused(r) => call_refusal(r),
     }
 }

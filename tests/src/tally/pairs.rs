@@ -31,12 +31,8 @@ pub struct Pairs {
 impl Pairs {
     /// Counts a group by the numbers of all rules.
     pub fn count(&mut self, docket: &Docket, counts: &[u32], said: &Result<Vec<u64>, Said>) {
-        let workers = counts.iter().map(|&count| u64::from(count)).sum::<u64>().min(1 << 32);
         let refusal = said.as_ref().err().and_then(Said::refusal);
-        if WORKERS.contains(&workers) {
-            let number = refusal.map_or(0, |refusal| refusal.number);
-            *self.groups.entry((number, workers)).or_default() += 1;
-        }
+        count_workers(&mut self.groups, refusal.map_or(0, |refusal| refusal.number), counts);
         if let Ok(numbers) = said {
             let rests = numbers.iter().all(|&number| number == 0);
             *self.rests.entry(rests).or_default() += 1;
@@ -63,14 +59,27 @@ impl Pairs {
         let numbers = kinds
             .into_iter()
             .flat_map(|(version, own)| sizes.map(|size| (version, own, size)));
-        let groups = WORKERS.map(|workers| (if (2..=1_000_000).contains(&workers) { 0 } else { 21 }, workers));
         [
             few("pairs: version, own kind, size", &self.numbers, numbers, LEAST),
-            few("pairs: refusal, workers", &self.groups, groups, LEAST),
+            few("pairs: refusal, workers", &self.groups, workers_wanted(), LEAST),
             few("pairs: standstill", &self.rests, [true, false], LEAST),
         ]
         .concat()
     }
+}
+
+/// Counts a group by the number of its refusal, 0 for none, and by how many workers it has, if that is one of `WORKERS`; 2
+/// to the power 32 stands for all that are more.
+pub fn count_workers(groups: &mut BTreeMap<(u32, u64), u64>, number: u32, counts: &[u32]) {
+    let workers = counts.iter().map(|&count| u64::from(count)).sum::<u64>().min(1 << 32);
+    if WORKERS.contains(&workers) {
+        *groups.entry((number, workers)).or_default() += 1;
+    }
+}
+
+/// The sizes of groups that must be met, with the number of the refusal of each.
+pub fn workers_wanted() -> [(u32, u64); 7] {
+    WORKERS.map(|workers| (if (2..=1_000_000).contains(&workers) { 0 } else { 21 }, workers))
 }
 
 /// The greatest numbers are those of 1,000,000 workers in one state, and of 500,000 in each of two.

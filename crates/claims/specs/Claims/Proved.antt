@@ -4,6 +4,7 @@ use Rattle.claims.specs.OfWriter.Proved.{of-writer}
 use Rattle.claims.specs.OfOrder.Proved.{of-order}
 use Rattle.claims.specs.OfPairs.Proved.{of-pairs}
 use Rattle.claims.specs.OfVersions.Proved.{of-versions}
+use Rattle.claims.specs.OfPage.Proved.{of-page}
 use Rattle.claims.specs.Claims.{Claims}
 
 pub claims : Claims
@@ -13,4 +14,5 @@ claims = record {
   of-order = of-order;
   of-pairs = of-pairs;
   of-versions = of-versions;
+  of-page = of-page;
 }

@@ -93,7 +93,7 @@ fits-place m n k [] p f = absurd (fits-none n k f)
 fits-place m n k (t ∷ ts) p f = ⊎-elim (λ h. omega (arith, h .1, p .0)) (λ s. fits-place m n k ts (p .1) (s .1)) (fits-split t ts n k f)
 
 -- Tests 1 to 8, and then tests vs, which have few places where the counts are within their limits.
-tests-place : (b : List ℕ) (vs : List Test) → let h = headerOf b in (Limits (h .sizes) → PlacesMost 65536 vs)
+pub tests-place : (b : List ℕ) (vs : List Test) → let h = headerOf b in (Limits (h .sizes) → PlacesMost 65536 vs)
     → (n k : ℕ) → FirstFits (shapeTests b h ++ vs) n k → k < 65536
 tests-place b vs few n k f =
     let h = headerOf b in

@@ -14,18 +14,13 @@ use Rattle.format.specs.Format.{protocolIn, layersIn, weightIn}
 use Rattle.format.specs.declared.Header.{Header}
 use Rattle.shape.specs.Shape.{refusal, byShape, shapeOf}
 use Rattle.shape.specs.Sound.{SoundShape}
-use Rattle.shape.specs.Sound.Laws.{shape-sound}
-use Rattle.shape.specs.declared.Refusal.{Refusal}
 use Rattle.shape.specs.declared.Shape.the-variants as shape
 use Rattle.machine.specs.Calls.{verdictOf, replyOf, countsOf}
+use Rattle.machine.specs.Code.Laws.{reply-sound, counts-sound}
 use Rattle.machine.specs.declared.Verdict.the-variants as shown
-use Rattle.claims.specs.OfDocket.{Rules, lastOn, reportedOn, CallsOn, Demand3}
+use Rattle.claims.specs.OfDocket.{passBack, Rules, lastOn, reportedOn, CallsOn, Demand3}
 use Rattle.claims.specs.OfDocket.Exact.{certified, laddered}
 use Rattle.claims.specs.OfDocket.Says.{demand-1}
-
--- A refused shape is passed back.
-abbrev passBack : Refusal → Reply
-passBack r = refused (r .number) (r .place)
 
 -- The calls on the bytes of a docket of sound shape are those on its protocol.
 module _ (b : List ℕ) (h : Header) (sound : SoundShape b h) where
@@ -35,28 +30,20 @@ module _ (b : List ℕ) (h : Header) (sound : SoundShape b h) where
   abbrev L : Layers
   L = layersIn b h
 
-  same-reply : (c : List ℕ) (x : Call) → replyOf b c x ≡ reply P L c x
-  unfolding replyOf
-  same-reply c x = ap (byShape passBack (λ k. reply (protocolIn b k) (layersIn b k) c x)) (shape-sound b h sound)
-
-  same-counts : (c : List ℕ) (x : Call) → countsOf b c x ≡ countsAfter P L c x
-  unfolding countsOf
-  same-counts c x = ap (byShape (λ _. c) (λ k. countsAfter (protocolIn b k) (layersIn b k) c x)) (shape-sound b h sound)
-
   same-last : (c : List ℕ) (xs : List Call) → lastOn b c xs ≡ lastCounts P L c xs
   unfolding lastOn lastCounts
   same-last c [] = refl
-  same-last c (x ∷ xs) = ap (λ d. lastOn b d xs) (same-counts c x) ∙ same-last (countsAfter P L c x) xs
+  same-last c (x ∷ xs) = ap (λ d. lastOn b d xs) (counts-sound b h sound c x) ∙ same-last (countsAfter P L c x) xs
 
   same-reported : (c : List ℕ) (xs : List Call) → reportedOn b c xs ≡ reported P L c xs
   unfolding reportedOn reported
   same-reported c [] = refl
-  same-reported c (x ∷ xs) = rw (same-reply c x, same-counts c x, same-reported (countsAfter P L c x) xs)
+  same-reported c (x ∷ xs) = rw (reply-sound b h sound c x, counts-sound b h sound c x, same-reported (countsAfter P L c x) xs)
 
   -- A claim about the calls on the protocol is one about those on the bytes.
   on-bytes : (c : List ℕ) (Q : (List ℕ → Call → Reply) → (List Call → List ℕ) → (List Call → ℕ) → Type 0)
       → Q (reply P L) (lastCounts P L c) (reported P L c) → Q (replyOf b) (lastOn b c) (reportedOn b c)
-  on-bytes c Q = subst₃ Q (sym (fun-ext (λ d. fun-ext (same-reply d)))) (sym (fun-ext (same-last c))) (sym (fun-ext (same-reported c)))
+  on-bytes c Q = subst₃ Q (sym (fun-ext (λ d. fun-ext (reply-sound b h sound d)))) (sym (fun-ext (same-last c))) (sym (fun-ext (same-reported c)))
 
 pub calls-on : (b : List ℕ) (h : Header) → SoundShape b h → (c : List ℕ) → CallsOn b h c
 calls-on b h sound c =
@@ -111,7 +98,7 @@ demand-3 b h keeps c =
 module _ (b : List ℕ) (n k : ℕ) (fails : shapeOf b ≡ shape.Refused (refusal n k)) where
   fails-reply : (c : List ℕ) (x : Call) → replyOf b c x ≡ refused n k
   unfolding replyOf
-  fails-reply c x = ap (byShape passBack (λ h. reply (protocolIn b h) (layersIn b h) c x)) fails
+  fails-reply c x = ap (byShape (passBack b c) (λ h. reply (protocolIn b h) (layersIn b h) c x)) fails
 
   fails-counts : (c : List ℕ) (x : Call) → countsOf b c x ≡ c
   unfolding countsOf

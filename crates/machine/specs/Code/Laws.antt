@@ -25,10 +25,11 @@ use Rattle.format.specs.Format.{sectionsOf, protocolOf, layersOf, protocolIn, l
 use Rattle.format.specs.Code.{hasFlag}
 use Rattle.format.specs.declared.Header.{Header}
 use Rattle.format.specs.declared.Flag.the-variants.{Output}
-use Rattle.shape.specs.Shape.{refusal, shapeOf}
+use Rattle.shape.specs.Shape.{refusal, shapeOf, byShape}
 use Rattle.shape.specs.Shape.Laws.{sound-then, sound-else}
 use Rattle.shape.specs.Code.{refusalOf}
 use Rattle.shape.specs.Sound.{SoundShape}
+use Rattle.shape.specs.Sound.Laws.{shape-sound}
 use Rattle.shape.specs.declared.Refusal.{Refusal}
 use Rattle.shape.specs.declared.Shape.{Shape}
 use Rattle.shape.specs.declared.Shape.the-variants.{Sound, Refused}
@@ -63,6 +64,16 @@ module _ (b c d : List ℕ) (x : Call) (s : Shape) (e : s ≡ shapeOf b) where
         (refused (q .number) (q .place)) s (shapeOf b) e r q u p refl;
     leaves = sound-else (λ _. c) (λ h. countsAfter (protocolIn b h) (layersIn b h) c x) d s (shapeOf b) e r q u p g;
   }
+
+-- The calls on the bytes of a docket of sound shape are those on its protocol.
+module _ (b : List ℕ) (h : Header) (sound : SoundShape b h) (c : List ℕ) (x : Call) where
+  pub reply-sound : replyOf b c x ≡ reply (protocolIn b h) (layersIn b h) c x
+  unfolding replyOf
+  reply-sound = ap (byShape (λ r. refused (r .number) (r .place)) (λ k. reply (protocolIn b k) (layersIn b k) c x)) (shape-sound b h sound)
+
+  pub counts-sound : countsOf b c x ≡ countsAfter (protocolIn b h) (layersIn b h) c x
+  unfolding countsOf
+  counts-sound = ap (byShape (λ _. c) (λ k. countsAfter (protocolIn b k) (layersIn b k) c x)) (shape-sound b h sound)
 
 -- ---- The counts: number is their fault, and t whether there is one
 

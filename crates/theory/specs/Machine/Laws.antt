@@ -2,7 +2,7 @@
 -- are those of the list of rule numbers that it makes. Assumes nothing.
 use mathlib.Core.Path.{_≡_, refl, sym, ap, _∙_}
 use mathlib.Core.Bool.{true, false, not, cond}
-use mathlib.Core.List.{List, [], _∷_, _++_, append-assoc, append-nil}
+use mathlib.Core.List.{List, [], _∷_, _++_, map, append-assoc, append-nil}
 use Prim.Native.Nat.{ℕ, zero, suc, _≤_, _<_}
 use native.Mathlib.Omega.{arith}
 use lib.ListN.{length}
@@ -14,6 +14,7 @@ use Rattle.theory.specs.Below.Laws.{any-elim, first-passes, first-lowest
 use Rattle.theory.specs.Protocol.{Protocol, WellFormed, enabled, fire, terminal, fires, tried, after, meetings, EachTried}
 use Rattle.theory.specs.Protocol.Lists.{tried-fires, rule-fires, length-after, size-after, after-append, meetings-append}
 use Rattle.theory.specs.Ladder.{Layers, OrderedPartition, enabledIn, active, lowest, layered}
+use Rattle.theory.specs.Ladder.Lists.{layered-append}
 use Rattle.theory.specs.Ladder.Active.{enabledIn-elim, lowest-quiet, lowest-active, not-terminal-lowest}
 use Rattle.theory.specs.Machine.Lists.{lastCounts, reported}
 use Rattle.theory.specs.Machine.{Call, step, run, stepped, refused, isRefused, meetingsOf, isSized, isWithin, admitted, admit, chosen, Uses}
@@ -202,3 +203,15 @@ module _ (P : Protocol) {L : Layers} (part : OrderedPartition P L) where
   reported-meetings c [] = refl
   reported-meetings c (x ∷ xs) =
       omega (arith, meetingsOf-is c x, reported-meetings (countsAfter P L c x) xs, meetings-append P c (adds P L c x) (numbersOf P L (countsAfter P L c x) xs))
+
+  -- The list that run calls make is layered.
+  pub runs-layered : (c limits : List ℕ) → layered P L c (numbersOf P L c (map run limits)) ≡ true
+  unfolding numbersOf layered countsAfter
+  runs-layered c [] = refl
+  runs-layered c (limit ∷ limits) =
+      let d = countsAfter P L c (run limit) in
+      let first : layered P L c (adds P L c (run limit)) ≡ true =
+      by-test (admitted P c)
+      (λ e. ap (layered P L c) (adds-on P L c (run limit) e) ∙ runNumbers-is limit c .is-layered)
+      (λ e. ap (layered P L c) (adds-off P L c (run limit) e)) in
+      layered-append P L c (adds P L c (run limit)) (numbersOf P L d (map run limits)) ∙ and-intro _ _ first (runs-layered d limits)

@@ -155,8 +155,8 @@ uint64_t docket_run(const uint8_t *docket, size_t docket_len, uint32_t *counts, 
    one group or more, without an upper limit. counts_len is the number of all counts, a multiple of S (docket_states), and
    results_len that of results, 2 * counts_len / S.
    Of group g, results[2 * g] is 0, or the number of its refusal, which can be 21 only. results[2 * g + 1] is 0 where the
-   group is refused, else its steps times 2, plus 1 where it rests: so half of it, rounded down, are the steps, and it is
-   odd where the group rests. A group that is refused keeps its counts, and the others are run; the function returns 0
+   group is refused, else its steps times 2, plus 1 where it rests: so half of it, rounded down, is the number of steps,
+   and it is odd where the group rests. A group that is refused keeps its counts, and the others are run; the function returns 0
    also where every group is refused. What results hold before the call is not read.
    The start test is not made, and no verdict is read: for these call docket_start_test before and docket_verdict
    afterwards, with counts + g * S and S. While a group that is not refused does not rest, call the function again with the

@@ -291,7 +291,7 @@ fn one_state_leaf(states: usize, weight: i64) -> Leaf {
     }
 }
 
-/// Whether a check or a call of this docket takes as long as those of a thousand small ones.
+/// Whether a check or a call of this docket takes long, beside those of most dockets here.
 pub fn is_large(docket: &Docket) -> bool {
     docket.nodes.len() > 300 || docket.rules.len() > 150
 }

@@ -142,16 +142,16 @@ module _ (b : List ℕ) (h : Header) (c r : List ℕ) (g : ℕ) where
     -- Where the group is not refused, a limit of the rest bound, or more, is enough for rest.
     pub enough : isWithin (groupIn h c g) ≡ true → (limit : ℕ)
         → size (groupIn h c g) * spreads (protocolIn b h) (layersIn b h) (weightIn b h) ≤ limit → second (resultsAfterPage b c limit r) g % 2 ≡ 1
-    -- From a start all lists of calls that end at a standstill have one verdict.
+    -- From a start all lists of calls that end terminal have one output.
     pub one-output : OneOutput (protocolIn b h) (groupIn h c g) groupAfter
 
--- A start x has one verdict: by step and run calls on its counts alone, and on every page that has as a group what such calls left, at
+-- A start x has one output (document 01: verdict): by step and run calls on its counts alone, and on every page that has as a group what such calls left, at
 -- every place and whatever the limits. So a group may be taken from one page to another between calls.
-pub record OneVerdict (b : List ℕ) (h : Header) (x : List ℕ) : Type 0 where
-  pub verdict : Bool
+pub record StartOutput (b : List ℕ) (h : Header) (x : List ℕ) : Type 0 where
+  pub output : Bool
   pub on-pages : (xs : List Call) (c r : List ℕ) (g : ℕ) (limits : List ℕ) → pageOf b c r ≡ Done → g < groupsIn h c → groupIn h c g ≡ lastOn b x xs
-      → terminal (protocolIn b h) (groupAfter b h c r g limits) ≡ true → verdictOf b (groupAfter b h c r g limits) ≡ Agreed verdict
-  pub by-calls : (xs : List Call) → terminal (protocolIn b h) (lastOn b x xs) ≡ true → verdictOf b (lastOn b x xs) ≡ Agreed verdict
+      → terminal (protocolIn b h) (groupAfter b h c r g limits) ≡ true → verdictOf b (groupAfter b h c r g limits) ≡ Agreed output
+  pub by-calls : (xs : List Call) → terminal (protocolIn b h) (lastOn b x xs) ≡ true → verdictOf b (lastOn b x xs) ≡ Agreed output
 
 -- The claims about pages.
 pub record OfPage : Type 0 where
@@ -166,5 +166,5 @@ pub record OfPage : Type 0 where
   pub in-a-row : (b : List ℕ) (h : Header) → SoundShape b h → (c r : List ℕ) → pageOf b c r ≡ Done → (g : ℕ) → g < groupsIn h c → PagesAreRuns b h c r g
   pub settles : (b : List ℕ) → IsAccepted b → (c r : List ℕ) → pageOf b c r ≡ Done
       → (g : ℕ) → g < groupsIn (headerOf b) c → PagesSettle b (headerOf b) c r g
-  pub one-verdict : (b : List ℕ) → IsAccepted b → (x : List ℕ) → Start (protocolIn b (headerOf b)) x → admitted (protocolIn b (headerOf b)) x ≡ true
-      → OneVerdict b (headerOf b) x
+  pub start-output : (b : List ℕ) → IsAccepted b → (x : List ℕ) → Start (protocolIn b (headerOf b)) x → admitted (protocolIn b (headerOf b)) x ≡ true
+      → StartOutput b (headerOf b) x

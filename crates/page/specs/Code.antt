@@ -7,7 +7,7 @@ use Rattle.theory.specs.Judge.{judge}
 use Rattle.theory.specs.Machine.{run, reply, countsAfter}
 use Rattle.format.specs.Format.{protocolIn, layersIn}
 use Rattle.format.specs.declared.Header.{Header}
-use Rattle.shape.specs.Shape.{refusal}
+use Rattle.shape.specs.Code.{failed}
 use Rattle.shape.specs.declared.Tested.{Tested}
 use Rattle.shape.specs.declared.Tested.the-variants.{Passed, Failed}
 use Rattle.page.specs.Page.{resultOf, pageTests, eachPart}
@@ -17,7 +17,7 @@ pub mod Laws
 
 -- What tests 32 and 33 find.
 unfoldable pub pageTested : ℕ → ℕ → ℕ → Tested
-pageTested n counts results = judge (λ m k. Failed (refusal m k)) Passed (pageTests n counts results)
+pageTested n counts results = judge failed Passed (pageTests n counts results)
 
 -- The answer after these tests.
 abbrev pub asPaged : Tested → Paged

@@ -54,10 +54,13 @@ markOf rules whole r =
 unfoldable pub usedBelow : List ℕ → ℕ → ℕ → Bool
 usedBelow rules n l = ltb l 64 && anyBelow n (inLayer rules l)
 
+-- The test of number n fails at place k.
+abbrev pub failed : ℕ → ℕ → Tested
+failed n k = Failed (refusal n k)
+
 -- What section_tests answers.
 unfoldable pub testedOf : Sizes → List ℕ → List ℕ → List ℕ → Tested
-testedOf z states rules layers =
-    judge (λ n k. Failed (refusal n k)) Passed (sectionTests z (sections states rules layers [] []))
+testedOf z states rules layers = judge failed Passed (sectionTests z (sections states rules layers [] []))
 
 -- What section_tests finds, as a shape with header h.
 abbrev pub asShape : Header → Tested → Shape

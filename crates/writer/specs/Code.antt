@@ -5,7 +5,7 @@ use lib.ListN.{length, take, drop}
 use Rattle.theory.specs.Judge.{judge}
 use Rattle.format.specs.Format.{Sections, sections}
 use Rattle.format.specs.declared.Sizes.{Sizes}
-use Rattle.shape.specs.Shape.{refusal}
+use Rattle.shape.specs.Code.{failed}
 use Rattle.shape.specs.declared.Tested.{Tested}
 use Rattle.shape.specs.declared.Tested.the-variants.{Passed, Failed}
 use Rattle.writer.specs.Write.{recordTests, partTests}
@@ -31,11 +31,11 @@ cutSizes z =
 -- Tests 5 to 8, with 14, and 11, for any sizes z. They do not look at the nodes.
 unfoldable pub recordsTested : Sizes → List ℕ → List ℕ → List ℕ → List ℕ → Tested
 recordsTested z states rules layers leaves =
-    judge (λ n k. Failed (refusal n k)) Passed (recordTests z (sections states rules layers [] leaves))
+    judge failed Passed (recordTests z (sections states rules layers [] leaves))
 
 -- The tests of the writer behind that of the version.
 unfoldable pub partsTested : ℕ → Sections → ℕ → Tested
-partsTested v x room = judge (λ n k. Failed (refusal n k)) Passed (partTests v x room)
+partsTested v x room = judge failed Passed (partTests v x room)
 
 -- What two lists of tests find, of which the second, which found o, counts where the first passes.
 abbrev pub behind : Tested → Tested → Tested

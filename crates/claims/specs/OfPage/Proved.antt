@@ -44,7 +44,7 @@ use Rattle.claims.specs.OfDocket.Says.{demand-1}
 use Rattle.claims.specs.OfDocket.Lists.{calls-on}
 use Rattle.claims.specs.OfDocket.Proved.{of-docket}
 use Rattle.claims.specs.OfPage.{groupsIn, groupIn, first, second, testsOfPage, AreGroups, PageAnswers, GroupRuns, PageRuns}
-use Rattle.claims.specs.OfPage.{afterPages, stepsOnPages, groupAfter, PagesAreRuns, PagesSettle, OneVerdict, OfPage}
+use Rattle.claims.specs.OfPage.{afterPages, stepsOnPages, groupAfter, PagesAreRuns, PagesSettle, StartOutput, OfPage}
 
 abbrev refuse : ℕ → ℕ → Paged
 refuse n k = Refused (refusal n k)
@@ -513,13 +513,13 @@ unfolding lastOn
 last-append b c [] ys = refl
 last-append b c (x ∷ xs) ys = last-append b (countsOf b c x) xs ys
 
-one-verdict : (b : List ℕ) → IsAccepted b → (x : List ℕ) → Start (protocolIn b (headerOf b)) x → admitted (protocolIn b (headerOf b)) x ≡ true
-    → OneVerdict b (headerOf b) x
-one-verdict b accepted x start on =
+start-output : (b : List ℕ) → IsAccepted b → (x : List ℕ) → Start (protocolIn b (headerOf b)) x → admitted (protocolIn b (headerOf b)) x ≡ true
+    → StartOutput b (headerOf b) x
+start-output b accepted x start on =
     let h = headerOf b in
     let v = of-docket b .demand-3 accepted x .calls-verdict start on in
     record {
-      verdict = v .0;
+      output = v .0;
       on-pages = λ xs c r g limits is l e t.
           let to =
           pages-left b h (done-sound b c r is) g limits c r is l ∙ ap (λ d. lastOn b d (map run limits)) e ∙ sym (last-append b x xs (map run limits)) in
@@ -535,5 +535,5 @@ of-page = record {
   old-results = old-results;
   in-a-row = λ b h sound c r is g l. pages-run b h sound g c r is l;
   settles = pages-settle;
-  one-verdict = one-verdict;
+  start-output = start-output;
 }

@@ -12,14 +12,14 @@ use lib.Seq.{sets-eq, drop-drop, take-at, drop-at}
 use Rattle.theory.specs.Bool.{bit}
 use Rattle.theory.specs.Bool.Laws.{or-fails}
 use Rattle.theory.specs.Judge.{judge, Passes}
-use Rattle.theory.specs.Judge.Laws.{only-hit, only-pass, judge-done, judge-map, judge-passes}
+use Rattle.theory.specs.Judge.Laws.{only-hit, only-pass, judge-done, judge-map}
 use Rattle.theory.specs.Protocol.Lists.{length-after}
 use Rattle.theory.specs.Machine.{run, Reply, stepped, ran, refused, reply, countsAfter, adds}
 use Rattle.format.specs.Format.{headerOf, protocolIn, layersIn}
 use Rattle.format.specs.declared.Header.{Header}
 use Rattle.shape.specs.Shape.{refusal, shapeOf, byShape}
-use Rattle.shape.specs.Shape.Laws.{sound-else}
-use Rattle.shape.specs.Code.{refusalOf}
+use Rattle.shape.specs.Shape.Laws.{sound-else, tested-passes}
+use Rattle.shape.specs.Code.{failed, refusalOf}
 use Rattle.shape.specs.Sound.{SoundShape}
 use Rattle.shape.specs.Sound.Laws.{sound-at}
 use Rattle.shape.specs.declared.Refusal.{Refusal}
@@ -38,9 +38,6 @@ use Rattle.page.specs.Code.{pageTested, asPaged, runCounts, runResult, w
 use Rattle.page.specs.declared.Paged.the-variants.{Done, Refused}
 
 -- ---- Tests 32 and 33
-
-abbrev failed : ℕ → ℕ → Tested
-failed n k = Failed (refusal n k)
 
 -- Two numbers for each group are not more than the counts.
 pub twice-most : (n k : ℕ) → 2 ≤ n → 2 * (k / n) ≤ k
@@ -228,9 +225,6 @@ pub ruleset runningGroups = (run-none, counts-length, results-length, counts-roo
 
 -- ---- The answer
 
-failed-not-passed : {q : Refusal} → Failed q ≡ Passed → ⊥
-failed-not-passed {q} e = let z : _≡_ {A = ℕ} 0 1 = cc in omega arith
-
 -- s is what tests 1 to 8 find.
 module _ (b c : List ℕ) (limit : ℕ) (r : List ℕ) (s : Shape) (e : s ≡ shapeOf b) where
   -- A call that is refused by q leaves both buffers.
@@ -283,7 +277,7 @@ module _ (b c : List ℕ) (limit : ℕ) (r : List ℕ) (s : Shape) (e : s ≡ sh
       module _ (p : o ≡ Passed) where
         passes : Passes (pageTests (h .sizes .states) (length c) (length r))
         unfolding pageTested
-        passes = judge-passes failed Passed Passed (λ n k. failed-not-passed) (pageTests (h .sizes .states) (length c) (length r)) (sym d ∙ p)
+        passes = tested-passes (pageTests (h .sizes .states) (length c) (length r)) (sym d ∙ p)
 
         -- The counts are a whole number of groups, and there are two results for each.
         whole : length c % h .sizes .states ≡ 0

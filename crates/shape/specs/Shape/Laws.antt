@@ -17,11 +17,11 @@ use Rattle.format.specs.Format.{sections, sectionsOf, isInput, ruleOf, ruleBefo
 use Rattle.format.specs.declared.Sizes.{Sizes}
 use Rattle.format.specs.declared.Header.{Header}
 use Rattle.format.specs.declared.Rule.{Rule}
-use Rattle.theory.specs.Judge.{judge}
-use Rattle.theory.specs.Judge.Laws.{judge-map}
+use Rattle.theory.specs.Judge.{Test, judge, Passes}
+use Rattle.theory.specs.Judge.Laws.{judge-map, judge-passes}
 use Rattle.shape.specs.Shape.{refusal, nth, badRecord, notAfter, inLayer, tooLarge, badState, badFields, badRule, outOfOrder, badLayer}
 use Rattle.shape.specs.Shape.{sectionTests, byShape}
-use Rattle.shape.specs.Code.{testedOf, asShape, refusalOf}
+use Rattle.shape.specs.Code.{failed, testedOf, asShape, refusalOf}
 use Rattle.shape.specs.declared.Refusal.{Refusal}
 use Rattle.shape.specs.declared.Tested.{Tested}
 use Rattle.shape.specs.declared.Tested.the-variants.{Passed, Failed}
@@ -189,6 +189,13 @@ layer-found z rules layers l j t e d = rw (e, found (z .states) (tooLarge (z .st
 
 -- ---- The whole
 
+failed-not-passed : {r : Refusal} → Failed r ≡ Passed → ⊥
+failed-not-passed {r} e = let z : _≡_ {A = ℕ} 0 1 = cc in omega arith
+
+-- Where tests are passed none has a bad place.
+pub tested-passes : (ts : List Test) → judge failed Passed ts ≡ Passed → Passes ts
+tested-passes = judge-passes failed Passed Passed (λ n k. failed-not-passed)
+
 pub tested-shape : (b : List ℕ) (h : Header) (states rules layers : List ℕ) (o : Tested) (r : Shape)
     → states ≡ sectionsOf b h .states → rules ≡ sectionsOf b h .rules → layers ≡ sectionsOf b h .layers
     → o ≡ testedOf (h .sizes) states rules layers → r ≡ asShape h o
@@ -197,7 +204,7 @@ unfolding testedOf
 tested-shape b h states rules layers o r s u l e d =
     rw (← s, ← u, ← l)
     (d ∙ ap (asShape h) e
-    ∙ judge-map (asShape h) (λ n k. Failed (refusal n k)) Passed
+    ∙ judge-map (asShape h) failed Passed
     (sectionTests (h .sizes) (sections states rules layers [] [])))
 
 -- ---- Callers

@@ -184,6 +184,18 @@ module _ (P : Protocol) {L : Layers} (part : OrderedPartition P L) where
         uses = (chosen-used c e, rw to (ih .uses));
       }))
 
+  -- The list that run calls make is layered.
+  pub runs-layered : (c limits : List ℕ) → layered P L c (numbersOf P L c (map run limits)) ≡ true
+  unfolding numbersOf layered countsAfter
+  runs-layered c [] = refl
+  runs-layered c (limit ∷ limits) =
+      let d = countsAfter P L c (run limit) in
+      let first : layered P L c (adds P L c (run limit)) ≡ true =
+      by-test (admitted P c)
+      (λ e. ap (layered P L c) (adds-on P L c (run limit) e) ∙ runNumbers-is limit c .is-layered)
+      (λ e. ap (layered P L c) (adds-off P L c (run limit) e)) in
+      layered-append P L c (adds P L c (run limit)) (numbersOf P L d (map run limits)) ∙ and-intro _ _ first (runs-layered d limits)
+
   -- ---- What calls report
 
   meetingsOf-is : (c : List ℕ) (x : Call) → meetingsOf (reply P L c x) ≡ meetings P c (adds P L c x)
@@ -203,15 +215,3 @@ module _ (P : Protocol) {L : Layers} (part : OrderedPartition P L) where
   reported-meetings c [] = refl
   reported-meetings c (x ∷ xs) =
       omega (arith, meetingsOf-is c x, reported-meetings (countsAfter P L c x) xs, meetings-append P c (adds P L c x) (numbersOf P L (countsAfter P L c x) xs))
-
-  -- The list that run calls make is layered.
-  pub runs-layered : (c limits : List ℕ) → layered P L c (numbersOf P L c (map run limits)) ≡ true
-  unfolding numbersOf layered countsAfter
-  runs-layered c [] = refl
-  runs-layered c (limit ∷ limits) =
-      let d = countsAfter P L c (run limit) in
-      let first : layered P L c (adds P L c (run limit)) ≡ true =
-      by-test (admitted P c)
-      (λ e. ap (layered P L c) (adds-on P L c (run limit) e) ∙ runNumbers-is limit c .is-layered)
-      (λ e. ap (layered P L c) (adds-off P L c (run limit) e)) in
-      layered-append P L c (adds P L c (run limit)) (numbersOf P L d (map run limits)) ∙ and-intro _ _ first (runs-layered d limits)

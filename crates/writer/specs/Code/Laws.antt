@@ -15,15 +15,15 @@ use Rattle.theory.specs.Bool.Laws.{by-test}
 use Rattle.theory.specs.Below.{firstBelow}
 use Rattle.theory.specs.Below.Scan.{first-clear}
 use Rattle.theory.specs.Judge.{Test, judge, Passes}
-use Rattle.theory.specs.Judge.Laws.{judge-hit, judge-pass, judge-done, only-hit, only-pass, judge-map, judge-append, judge-passes}
+use Rattle.theory.specs.Judge.Laws.{judge-hit, judge-pass, judge-done, only-hit, only-pass, judge-map, judge-append}
 use Rattle.format.specs.Format.{stateWidth, Sections, sections}
 use Rattle.format.specs.declared.Sizes.{Sizes}
 use Rattle.format.specs.declared.Header.{Header}
 use Rattle.shape.specs.Shape.{refusal, nth, wrongVersion, countFaults, countTest, sectionTests}
-use Rattle.shape.specs.Shape.Laws.{five-of-six}
+use Rattle.shape.specs.Shape.Laws.{five-of-six, tested-passes}
 use Rattle.shape.specs.Sound.{Limits}
 use Rattle.shape.specs.Sound.Laws.{version-passes, limits}
-use Rattle.shape.specs.Code.{testedOf}
+use Rattle.shape.specs.Code.{failed, testedOf}
 use Rattle.shape.specs.declared.Refusal.{Refusal}
 use Rattle.shape.specs.declared.Tested.{Tested}
 use Rattle.shape.specs.declared.Tested.the-variants.{Passed, Failed}
@@ -33,7 +33,6 @@ use Rattle.writer.specs.Write.{lengthTest, recordTests, roomTest, partTe
 use Rattle.writer.specs.Write.Laws.{whole-records, total-length, docket-length, room-passes}
 use Rattle.writer.specs.Code.{cut, cutSizes, recordsTested, partsTested, behind, asWritten, replaced}
 use Rattle.writer.specs.declared.Lengths.{Lengths}
-use Rattle.writer.specs.declared.Written.{Written}
 use Rattle.writer.specs.declared.Written.the-variants.{Total, Refused}
 
 -- ---- Records of 4 bytes for each of s states
@@ -146,14 +145,8 @@ cut-same z L =
 
 -- ---- Tests behind tests
 
-abbrev failed : ℕ → ℕ → Tested
-failed n k = Failed (refusal n k)
-
 tested-append : (us vs : List Test) → behind (judge failed Passed us) (judge failed Passed vs) ≡ judge failed Passed (us ++ vs)
 tested-append us vs = judge-map (λ o. behind o (judge failed Passed vs)) failed Passed us ∙ sym (judge-append failed Passed us vs)
-
-failed-not-passed : {r : Refusal} → Failed r ≡ Passed → ⊥
-failed-not-passed {r} e = let z : _≡_ {A = ℕ} 0 1 = cc in omega arith
 
 -- The first tests found o, and r is answered.
 module _ (us vs : List Test) (o r : Tested) (e : o ≡ judge failed Passed us) where
@@ -365,7 +358,7 @@ module _ (v : ℕ) (x : Sections) (out : List ℕ) (t : Bool) (f : t ≡ wrongVe
 
     passes : Passes (partTests v x (length out))
     unfolding partsTested
-    passes = judge-passes failed Passed Passed (λ n k. failed-not-passed) (partTests v x (length out)) (sym tested-as ∙ p)
+    passes = tested-passes (partTests v x (length out)) (sym tested-as ∙ p)
 
     within : Limits (sizesIn v x)
     within = limits (sizesIn v x) (passes .1 .0)

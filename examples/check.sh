@@ -1,5 +1,5 @@
 #!/usr/bin/env bash
-# Compiles page_reader.c, page_votes.c, random_vote.c and table_editor.c with the static library and compares their runs with examples/expect/.
+# Compiles page_reader.c, page_votes.c, random_vote.c and table_editor.c with the static library and compares their runs, and those of totals.sh and of the program tally, with examples/expect/.
 # Each file there is one run: the command line, what it prints, and its exit status. $new names a file that is not there yet.
 set -euo pipefail
 cd "$(dirname "$0")/.."
@@ -7,10 +7,16 @@ library=target/staticlib/libdocket.a
 work=$(mktemp -d)
 trap 'rm -rf "$work"' EXIT
 
-if [[ ! -f $library ]]; then
-  echo "examples: no $library; tools/library makes it" >&2
-  exit 2
-fi
+# Ends this script where the file $1, which the command $2 makes, is not there.
+need() {
+  if [[ ! -f $1 ]]; then
+    echo "examples: no $1; $2 makes it" >&2
+    exit 2
+  fi
+}
+
+need "$library" tools/library
+need target/bin/tally 'rt check tally'
 for program in page_reader page_votes random_vote table_editor; do
   cc -std=c99 -Wall -Wextra -Wpedantic -Werror -Iinclude "examples/$program.c" "$library" -o "$work/$program"
 done

@@ -104,7 +104,7 @@
 extern "C" {
 #endif
 
-#define DOCKET_VERSION "0.9.0"   /* of this header and its library, not of a docket */
+#define DOCKET_VERSION "0.10.0"   /* of this header and its library, not of a docket */
 #define DOCKET_MAX_BYTES 65535   /* a longer file is refused with 1, 0; so read at most one byte more */
 #define DOCKET_MAX_STATES 64     /* the counts of a group of every docket fit an array of so many */
 #define DOCKET_MAX_RULES 256     /* a number for each rule of every docket fits an array of so many */

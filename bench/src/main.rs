@@ -1,5 +1,6 @@
-//! Times the proved implementation, through C, against the same methods in Rust, in one process and on the same input;
-//! and against the second implementation, which is plain rather than fast.
+//! Times the proved implementation against the same methods in Rust, on the same input; and against the second
+//! implementation, which is plain rather than fast. The proved implementation is called through C, in one process with
+//! the others; its sheets of totals are printed by the program `tally`, in processes of their own.
 //!
 //!     bench            times all cases
 //!     bench WORD       times the cases whose name has the word
@@ -17,11 +18,12 @@ mod baseline;
 mod loaded;
 
 use second::Docket;
+use std::hash::{DefaultHasher, Hash, Hasher};
 use std::hint::black_box;
 use std::time::Instant;
 use tests::calls::{self, Call};
-use tests::make::fixed;
-use tests::{make, native};
+use tests::make::{fixed, remainder};
+use tests::{make, native, program};
 
 const ROUNDS: usize = 15;
 const LEAST_SECONDS: f64 = 0.004;
@@ -166,6 +168,7 @@ struct Inputs {
     starts: Vec<(String, Vec<u8>, Vec<u32>)>,
     pairs: Vec<(String, Vec<u8>, Vec<u32>)>,
     pages: Vec<(String, Vec<u8>, Vec<u32>)>,
+    totals: Vec<(String, Vec<u8>, u64)>,
     writes: Vec<(String, Vec<u8>)>,
 }
 
@@ -178,6 +181,7 @@ impl Inputs {
             starts: starts(),
             pairs: pairs(),
             pages: pages(),
+            totals: totals(),
             writes: writes(),
         }
     }
@@ -203,6 +207,8 @@ impl Inputs {
         cases.extend(pairs.map(|(name, docket, counts)| can_act_case(name, docket, counts)));
         let pages = self.pages.iter();
         cases.extend(pages.map(|(name, docket, counts)| page_case(name, docket, counts)));
+        let totals = self.totals.iter();
+        cases.extend(totals.map(|(name, input, starts)| totals_case(name, input, *starts)));
         cases.extend(self.writes.iter().map(|(name, docket)| write_case(name, docket)));
         cases
     }
@@ -229,7 +235,7 @@ fn checks() -> Vec<(String, Vec<u8>)> {
     ));
     dockets.push((
         "check, sums modulo 17, 128 leaves closed by kind 7".into(),
-        make::remainder::many_leaves(),
+        remainder::many_leaves(),
     ));
     for rules in [32, 64, 128, 256] {
         dockets.push((
@@ -521,6 +527,49 @@ fn page_case<'a>(name: &str, docket: &'a [u8], counts: &'a [u32]) -> Case<'a> {
         unit: "group",
         units: GROUPS.into(),
         calls: RUN_PAGE.map(|run_page| page_call(name, docket, counts, run_page)),
+    }
+}
+
+/// Standard input of the program `tally` with 12 workers, and how many starts there are.
+fn totals() -> Vec<(String, Vec<u8>, u64)> {
+    let sum = remainder::table(18, 3, &[0, 1, 2, 3, 4, 5, 6, 7]);
+    let maximum = make::maximum(&[0, 1, 1, 0, 1, 0, 0, 1]);
+    let halving = fixed::with_fixed(make::halving(7, 1), &[1000, 0, 0, 0, 0, 0, 0, 1000]);
+    [
+        ("20 states, 8 inputs", sum.clone(), 50_388),
+        ("v2, 20 states, 8 inputs", fixed::with_fixed(sum, &[]), 50_388),
+        ("maximum, 8 states, 8 inputs", maximum, 50_388),
+        ("v2, 8 states, 2 inputs, long runs", halving, 13),
+    ]
+    .map(|(name, docket, starts)| (format!("totals, {name}"), [&[12], &docket.bytes()[..]].concat(), starts))
+    .into()
+}
+
+/// The answer is a hash of the line. That of the proved implementation is printed by the program, and the start of its
+/// process is part of the time: the inputs are so large that it hardly counts.
+fn totals_case<'a>(name: &str, input: &'a [u8], starts: u64) -> Case<'a> {
+    assert!(second::check(&input[1..]).is_ok(), "{name}: the docket is not accepted");
+    let lines: [fn(&[u8]) -> String; 3] = [
+        |input| program::printed("tally", input),
+        |input| second::tally_line(&Ok(baseline::tally(input).expect("totals"))),
+        |input| second::tally_line(&second::tally(input)),
+    ];
+    let first = format!("{starts} ");
+    let calls = lines.map(|line| -> Box<dyn FnMut() -> u64 + 'a> {
+        let first = first.clone();
+        Box::new(move || {
+            let line = line(black_box(input));
+            assert!(line.starts_with(&first), "{line:?} and not {first}starts");
+            let mut hasher = DefaultHasher::new();
+            line.hash(&mut hasher);
+            hasher.finish()
+        })
+    });
+    Case {
+        name: name.into(),
+        unit: "start",
+        units: starts,
+        calls,
     }
 }
 

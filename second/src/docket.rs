@@ -13,6 +13,13 @@ pub struct Refusal {
     pub place: u32,
 }
 
+impl Refusal {
+    /// The line that a program prints for it.
+    pub fn line(&self) -> String {
+        format!("refused {} {}\n", self.number, self.place)
+    }
+}
+
 /// The figures of an accepted docket: S, R, L, N, W and M.
 #[derive(Clone, Copy, Debug, PartialEq, Eq)]
 pub struct Figures {
@@ -142,7 +149,7 @@ pub fn line(docket: &[u8]) -> String {
             "accepted {}\n",
             figures.numbers().map(|number| number.to_string()).join(" ")
         ),
-        Err(refusal) => format!("refused {} {}\n", refusal.number, refusal.place),
+        Err(refusal) => refusal.line(),
     }
 }
 

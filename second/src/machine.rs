@@ -44,13 +44,7 @@ pub fn is_standstill(docket: &[u8], counts: &[u32]) -> Result<bool, Refusal> {
 
 /// 0 or 1 if all occupied states have that verdict, otherwise mixed.
 pub fn verdict(docket: &[u8], counts: &[u32]) -> Result<Verdict, Refusal> {
-    let docket = docket_for(docket, counts)?;
-    let occupied = |verdict: u8| (0..counts.len()).any(|i| counts[i] > 0 && docket.states[i].verdict == verdict);
-    Ok(match (occupied(0), occupied(1)) {
-        (_, false) => Verdict::Zero,
-        (false, true) => Verdict::One,
-        (true, true) => Verdict::Mixed,
-    })
+    Ok(verdict_of(&docket_for(docket, counts)?, counts))
 }
 
 /// The rule of this number acts.
@@ -76,6 +70,25 @@ pub fn run(docket: &[u8], counts: &mut [u32], limit: u32) -> Result<Ran, Refusal
         steps += 1;
     }
     Ok(Ran { steps, rests: true })
+}
+
+/// Steps as a run makes them, up to rest; hands back how many. It ends where the docket passes tests 9 and 10.
+pub(crate) fn run_to_rest(docket: &Docket, counts: &mut [u32]) -> u64 {
+    let mut steps = 0;
+    while let Some(rule) = next_rule(docket, counts) {
+        act(rule, counts);
+        steps += 1;
+    }
+    steps
+}
+
+pub(crate) fn verdict_of(docket: &Docket, counts: &[u32]) -> Verdict {
+    let occupied = |verdict: u8| (0..counts.len()).any(|i| counts[i] > 0 && docket.states[i].verdict == verdict);
+    match (occupied(0), occupied(1)) {
+        (_, false) => Verdict::Zero,
+        (false, true) => Verdict::One,
+        (true, true) => Verdict::Mixed,
+    }
 }
 
 /// Tests 1 to 8, 14, 20 and 21.

@@ -111,6 +111,12 @@ pub fn refusal_code(refusal: Refusal) -> u64 {
     u64::from(refusal.number) * 65_536 + u64::from(refusal.place)
 }
 
+/// The refusal that docket_check returns so.
+pub fn refusal_by_code(code: u64) -> Option<Refusal> {
+    let (number, place) = ((code / 65_536) as u32, (code % 65_536) as u32);
+    (code != 0).then_some(Refusal { number, place })
+}
+
 /// What docket_figures says, by the second implementation: the code of the check, and the six figures where it accepts.
 pub fn figures(docket: &[u8]) -> (u64, [u64; 6]) {
     let figures = second::check(docket).map_or([UNTOUCHED; 6], |figures| figures.numbers());

@@ -2,21 +2,19 @@
 //! second one on random inputs.
 //!
 //!     compare                  the gate's numbers of inputs, from a fixed seed
-//!     compare long SEED        twenty times as many, from another seed
+//!     compare long SEED        twenty times as many, from another seed, and a start of more steps than 32 bits hold
 //!
 //! The last line is `N passed, 0 failed`; a difference is printed with the docket in hexadecimal and both answers.
 
 use second::{Docket, Refusal};
-use std::io::Write;
 use std::path::{Path, PathBuf};
-use std::process::{Command, Stdio};
 use tests::calls::{self, check_code, Call, Said};
 use tests::groups::random_counts;
 use tests::make::{fixed, remainder};
 use tests::random::Random;
 use tests::tally::Tally;
-use tests::{damage, fixed as fixed_agents, make, native, order, outcomes, pages, pairs, parts, prover, remainders};
-use tests::{samples, versions, writing};
+use tests::{damage, fixed as fixed_agents, make, native, order, outcomes, pages, pairs, parts, program, prover};
+use tests::{remainders, samples, totals, versions, writing};
 
 const THREADS: u64 = 2;
 const DOCKETS: u64 = 400_000;
@@ -24,6 +22,7 @@ const LISTS: u64 = 100_000;
 const WRITES: u64 = 150_000;
 const GROUPS: u64 = 30_000;
 const PAGES: u64 = 20_000;
+const TOTALS: u64 = 3_000;
 const LINES: u64 = 4_000;
 
 /// One of so many dockets of version 1, and of lists of calls on them, is tried in version 2 too.
@@ -55,9 +54,14 @@ fn main() {
     };
     let mut results = Results { passed: 0, failed: 0 };
     run_samples(&mut results);
+    if times > 1 {
+        let problem = totals::many_steps_problem(19, 9);
+        results.expect("totals: more steps than 32 bits hold", problem);
+    }
     let corpus = run_corpus(&mut results);
     run_cases(&mut results, "writer", 36, writing::case_problem);
     run_cases(&mut results, "page", 18, pages::case_problem);
+    run_cases(&mut results, "tally", 31, totals::case_problem);
     let pool = Pool::new(seed, corpus);
     println!(
         "{} accepted dockets to begin with, of them {} of version 2 and {} large",
@@ -73,6 +77,10 @@ fn main() {
     results.expect(
         "the library runs a page as its groups one by one",
         first_of(&tally.pages.broken),
+    );
+    results.expect(
+        "the program tally keeps the laws of totals",
+        first_of(&tally.totals.broken),
     );
     let missing = tally.not_reached();
     results.expect(
@@ -111,6 +119,7 @@ fn report(tally: &Tally) {
     report_order(tally);
     report_pairs(tally);
     report_pages(tally);
+    report_totals(tally);
     report_writes(tally);
 }
 
@@ -195,6 +204,22 @@ fn report_pages(tally: &Tally) {
     );
 }
 
+fn report_totals(tally: &Tally) {
+    let totals = &tally.totals;
+    println!(
+        "totals by version and refusal (0: answered): {:?}; refusals of the check where 34 fits too: {:?}; refusals 34: {:?}",
+        totals.lines, totals.before_34, totals.refused_34
+    );
+    println!(
+        "totals answered by agents: {:?}; by inputs: {:?}; by fixed agents in an input and in another state: {:?}",
+        totals.agents, totals.inputs, totals.fixed
+    );
+    println!(
+        "totals answered by verdicts met: {:?}; by the start that is shown and how many need its steps: {:?}; by steps: {:?}",
+        totals.verdicts, totals.shown, totals.steps
+    );
+}
+
 /// How many problems there are, and the first five of them.
 fn first_of(problems: &[String]) -> Option<String> {
     let shown: Vec<String> = problems.iter().take(5).cloned().collect();
@@ -235,13 +260,19 @@ fn run_samples(results: &mut Results) {
     for (name, problem) in writing::samples() {
         results.expect(&format!("writer: {name}"), problem);
     }
-    results.expect("standard input that cannot be read", unreadable_problem());
+    for (name, problem) in totals::samples() {
+        results.expect(&format!("totals: {name}"), problem);
+    }
+    for name in ["docket", "tally"] {
+        let problem = program::unreadable_problem(name);
+        results.expect(&format!("{name}: standard input that cannot be read"), problem);
+    }
 }
 
 /// What is wrong with what the two implementations and the program say of a docket, in either version, or with how its
 /// parts are written.
 fn line_problem(docket: &[u8], line: &str) -> Option<String> {
-    let (second, printed) = (second::line(docket), printed_line(docket));
+    let (second, printed) = (second::line(docket), program::printed("docket", docket));
     let (native, code) = (native::check(docket), check_code(docket));
     let good = second.trim_end() == line && printed == second && native == code && figures_agree(docket);
     if !good {
@@ -274,34 +305,6 @@ fn call_problem(sample: &samples::CallSample) -> Option<String> {
     None
 }
 
-fn program() -> PathBuf {
-    Path::new(env!("CARGO_MANIFEST_DIR")).join("../target/bin/docket")
-}
-
-/// The line that the program prints for a docket on standard input.
-fn printed_line(docket: &[u8]) -> String {
-    let mut child = Command::new(program())
-        .stdin(Stdio::piped())
-        .stdout(Stdio::piped())
-        .spawn()
-        .unwrap_or_else(|error| panic!("{}: {error}", program().display()));
-    // The program may end before it has read all of a file that is too long.
-    let _ = child.stdin.take().map(|mut input| input.write_all(docket));
-    let output = child.wait_with_output().expect("the program's output");
-    String::from_utf8_lossy(&output.stdout).into_owned()
-}
-
-/// What is wrong with what the program does where standard input is a directory, which no read gets a byte of.
-fn unreadable_problem() -> Option<String> {
-    let directory = std::fs::File::open("/").expect("the root directory");
-    let output = Command::new(program())
-        .stdin(directory)
-        .output()
-        .expect("the program's output");
-    let good = output.stdout.is_empty() && output.stderr == b"docket: standard input cannot be read\n";
-    (!good).then(|| format!("{output:?}"))
-}
-
 /// The least number of dockets in the corpus, so that it is seen where some are gone.
 const CORPUS: usize = 133;
 
@@ -323,17 +326,19 @@ fn run_corpus(results: &mut Results) -> Vec<Docket> {
         results.expect(&path.to_string_lossy(), line_problem(&docket, line.trim_end()));
         if second::check(&docket).is_ok() {
             accepted.extend(second::parse(&docket));
+            let problem = totals::accepted_problem(&docket);
+            results.expect(&format!("totals: {}", path.display()), problem);
         }
     }
     accepted
 }
 
-/// Runs a file of the corpus that has a case in each line, at least so many.
-fn run_cases(results: &mut Results, name: &str, least: usize, problem: fn(&str) -> Option<String>) {
+/// Runs a file of the corpus that has a case in each line, so many in all.
+fn run_cases(results: &mut Results, name: &str, number: usize, problem: fn(&str) -> Option<String>) {
     let folder = Path::new(env!("CARGO_MANIFEST_DIR")).join("corpus");
     let text = std::fs::read_to_string(folder.join(format!("{name}.txt"))).expect("a file of cases");
     let cases: Vec<&str> = text.lines().filter(|line| !line.starts_with('#')).collect();
-    let missing = (cases.len() < least).then(|| format!("{} of at least {least} cases", cases.len()));
+    let missing = (cases.len() != number).then(|| format!("{} cases and not {number}", cases.len()));
     results.expect(&format!("the cases of {name}.txt are whole"), missing);
     for case in cases {
         results.expect(&format!("{name}: {case}"), problem(case));
@@ -404,6 +409,18 @@ impl Pool {
             1 | 2 => damage::rewritten(self.draw(random), random).bytes(),
             _ => self.draw(random).bytes(),
         }
+    }
+
+    /// A docket that the check refuses with a number that is drawn first, so that rare ones are met too; or no byte,
+    /// where none is found soon.
+    fn refused(&self, random: &mut Random) -> Vec<u8> {
+        let (number, version) = (1 + random.below(14) as u32, 1 + random.below(2) as u8);
+        let fits = |docket: &Vec<u8>| {
+            let refusal = second::check(docket).err();
+            refusal.is_some_and(|refusal| refusal.number == number) && (number < 9 || docket[0] == version)
+        };
+        let mut inputs = (0..400).map(|_| self.input(random));
+        inputs.find(fits).unwrap_or_default()
     }
 }
 
@@ -525,6 +542,9 @@ fn compare_some(pool: &Pool, mut random: Random, times: u64) -> Tally {
     for _ in 0..PAGES * times {
         compare_page(&mut tally, pool, &mut random);
     }
+    for _ in 0..TOTALS * times {
+        compare_totals(&mut tally, pool, &mut random);
+    }
     tally
 }
 
@@ -555,7 +575,7 @@ fn compare_versions(tally: &mut Tally, docket: &[u8]) {
 }
 
 fn compare_line(tally: &mut Tally, docket: &[u8]) {
-    let (printed, line) = (printed_line(docket), second::line(docket));
+    let (printed, line) = (program::printed("docket", docket), second::line(docket));
     if printed != line {
         tally.differ(docket, format!("printed: {printed:?}, second implementation: {line:?}"));
     }
@@ -654,6 +674,26 @@ fn compare_page(tally: &mut Tally, pool: &Pool, random: &mut Random) {
         tally.break_page(&docket, law);
     }
     tally.pages.count(parsed.as_ref(), &page, &done);
+}
+
+/// The line of the program `tally`, beside the second implementation and the calls of the library.
+fn compare_totals(tally: &mut Tally, pool: &Pool, random: &mut Random) {
+    let docket = match random.below(8) {
+        0 | 1 => totals::random_docket(random).bytes(),
+        2 => pool.input(random),
+        3 | 4 => pool.refused(random),
+        _ => pool.input_of_calls(random),
+    };
+    let input = totals::random_input(&docket, random);
+    let line = program::printed("tally", &input);
+    if let Some(difference) = totals::difference(&input, &line) {
+        tally.differ(totals::parts_of(&input).1, difference);
+    }
+    let said = totals::said_by(native::check, &native::say, &input);
+    if let Some(law) = totals::broken_law(&input, &said, &line) {
+        tally.break_totals(&input, format!("{line:?}: not so that {law}"));
+    }
+    tally.totals.count(&input, &said);
 }
 
 /// Makes a call in version 2 too, which in version 1 says this and leaves these counts. Hands back whether it says and

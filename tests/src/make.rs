@@ -308,6 +308,22 @@ pub fn still(states: usize) -> Docket {
     }
 }
 
+/// So many levels, at most 19, above state 0, where agents rest: with one of state 0, an agent of a level becomes two
+/// of the level below. So an agent of level k takes 2 to the power k, less 1, steps, where state 0 has agents enough.
+/// The highest level has `tops` states. State 0 and the first of these are inputs, and all states have verdict 1.
+pub fn halving(levels: usize, tops: usize) -> Docket {
+    let states = levels + tops;
+    let level = |state: usize| state.min(levels);
+    Docket {
+        version: 1,
+        states: (0..states).map(|i| state(1, i == 0 || i == levels)).collect(),
+        rules: (1..states).map(|i| rule([0, i], [level(i) - 1; 2], 0)).collect(),
+        weights: vec![(0..states).map(|i| (1 << level(i)) - 1).collect()],
+        nodes: vec![node(1, 1, 0)],
+        leaves: vec![],
+    }
+}
+
 /// 64 states without a rule, of which the last one alone is no input.
 pub fn last_no_input() -> Docket {
     let mut docket = still(64);

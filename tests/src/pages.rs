@@ -143,13 +143,15 @@ fn named(text: &str) -> Vec<u8> {
     let docket = match name {
         "cycle" => with_rules(make::still(2), "0 0 1 1 0; 1 1 0 0 0", vec![0, 0]),
         "64 states" => make::still(64),
-        _ => {
-            let mut tables = pairs::tables().into_iter();
-            tables.find(|table| table.0 == name).expect("a table of this name").1
-        }
+        _ => pairs::table(name),
     };
-    let mut bytes = docket.bytes();
-    if let Some((at, byte)) = change.split_once('=') {
+    with_bytes(docket.bytes(), change)
+}
+
+/// The bytes after the changes of a text: each is a place and the byte that stands there then.
+pub fn with_bytes(mut bytes: Vec<u8>, changes: &str) -> Vec<u8> {
+    for change in changes.split_terminator(", ") {
+        let (at, byte) = change.split_once('=').expect("a place and a byte");
         bytes[at.parse::<usize>().expect("a place")] = byte.parse().expect("a byte");
     }
     bytes

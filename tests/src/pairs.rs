@@ -123,6 +123,12 @@ pub fn tables() -> Vec<(&'static str, Docket)> {
     ]
 }
 
+/// The table of this name.
+pub fn table(name: &str) -> Docket {
+    let mut all = tables().into_iter();
+    all.find(|table| table.0 == name).expect("a table of this name").1
+}
+
 /// Counts at the limits of a group, past them and in between: 65,536 times itself is 2 to the power 32.
 const LIMITS: [u32; 8] = [0, 1, 2, 65_536, 500_000, 999_999, 1_000_000, u32::MAX];
 

@@ -4,6 +4,7 @@ mod fixed;
 mod order;
 mod pages;
 mod pairs;
+mod totals;
 mod writes;
 
 use crate::calls::{is_of_tests_1_to_8, Call, Said};
@@ -14,6 +15,7 @@ pub use pairs::Pairs;
 use second::Refusal;
 use std::collections::{BTreeMap, BTreeSet};
 use std::fmt::Debug;
+use totals::Totals;
 use writes::Writes;
 
 /// Places by the number of their refusal.
@@ -44,6 +46,7 @@ pub struct Tally {
     pub order: Order,
     pub pairs: Pairs,
     pub pages: Pages,
+    pub totals: Totals,
     pub writes: Writes,
     /// What was said to the inputs on which the two implementations differ.
     pub differences: Vec<String>,
@@ -119,6 +122,10 @@ impl Tally {
         self.pages.broken.push(of_docket(docket, &what));
     }
 
+    pub fn break_totals(&mut self, input: &[u8], what: String) {
+        self.totals.broken.push(format!("input {}\n  {what}", hex(input)));
+    }
+
     pub fn merge(&mut self, other: Tally) {
         self.dockets += other.dockets;
         self.pass_shape += other.pass_shape;
@@ -140,13 +147,14 @@ impl Tally {
         self.order.merge(other.order);
         self.pairs.merge(other.pairs);
         self.pages.merge(other.pages);
+        self.totals.merge(other.totals);
         self.writes.merge(other.writes);
         self.differences.extend(other.differences);
     }
 
     /// What the inputs failed to reach: several places with every refusal that has them, some last places, every kind of
     /// node and some moduli, half of the dockets past tests 1 to 8, a tenth of them accepted, tables in which a pair has
-    /// several rules, version 2, rules out of order, numbers of pairs, pages, and what the writer can say.
+    /// several rules, version 2, rules out of order, numbers of pairs, pages, totals, and what the writer can say.
     pub fn not_reached(&self) -> Vec<String> {
         let mut missing = places_not_reached(&self.places, &LEAST_PLACES, &LAST_PLACES);
         if 2 * self.pass_shape < self.dockets {
@@ -161,6 +169,7 @@ impl Tally {
         missing.extend(self.order.not_reached());
         missing.extend(self.pairs.not_reached());
         missing.extend(self.pages.not_reached());
+        missing.extend(self.totals.not_reached());
         missing.extend(self.writes.not_reached());
         missing
     }

@@ -1,14 +1,17 @@
-//! The check, the machine and the writer by the same methods as the proved implementation, written in Rust with the
-//! same care for speed: the file is read in place, sets of states and of rules are words of 64 bits, facts are a plain
-//! struct that is copied to each child, every search stops at its first find, and nothing is allocated.
+//! The check, the machine, the writer and the sheet of totals by the same methods as the proved implementation, written
+//! in Rust with the same care for speed: the file is read in place, sets of states and of rules are words of 64 bits,
+//! facts are a plain struct that is copied to each child, every search stops at its first find, and nothing is
+//! allocated but the start that a sheet shows.
 
 mod docket;
 mod ladder;
 mod machine;
+mod totals;
 mod tree;
 mod writer;
 
 use docket::Docket;
+use second::Totals;
 pub use writer::write;
 
 /// Number and place of a refusal.
@@ -86,4 +89,11 @@ pub fn run(docket: &[u8], counts: &mut [u32], limit: u32) -> Result<(u64, bool),
 /// What `docket_run_page` returns.
 pub fn run_page_code(docket: &[u8], counts: &mut [u32], limit: u32, results: &mut [u64]) -> u64 {
     call_code(Docket::read(docket).and_then(|docket| machine::run_page(&docket, counts, limit, results)))
+}
+
+/// What the program `tally` says of its input: one byte n, 0 if there is none, and the docket behind it.
+pub fn tally(input: &[u8]) -> Result<Totals, Refusal> {
+    let (&agents, docket) = input.split_first().unwrap_or((&0, &[]));
+    check(docket)?;
+    totals::totals(&Docket::read(docket)?, agents)
 }

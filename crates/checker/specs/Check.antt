@@ -10,6 +10,7 @@ use Rattle.theory.specs.Tree.{Walked, next, refused, disagreement, treeAnswer, 
 use Rattle.format.specs.Format.{Sections, sectionsOf, layerWeight, protocolOf, layersOf, treeOf, weightsOf}
 use Rattle.format.specs.declared.Sizes.{Sizes}
 use Rattle.shape.specs.Shape.{refusal, shapeOf, byShape}
+use Rattle.shape.specs.declared.Refusal.{Refusal}
 use Rattle.leaf.specs.Leaf.{leafTest}
 use Rattle.checker.specs.declared.Summary.{Summary}
 use Rattle.checker.specs.declared.Checked.{Checked}
@@ -64,3 +65,8 @@ sectionsCheck z x = judge (λ n k. Refused (refusal n k)) (treeCheck (summaryOf 
 -- The check: tests 1 to 8, then the others.
 unfoldable pub checkOf : List ℕ → Checked
 checkOf b = byShape Refused (λ h. sectionsCheck (h .sizes) (sectionsOf b h)) (shapeOf b)
+
+-- What a call that wants an accepted docket comes to: x, or what it makes of the check's refusal.
+abbrev pub onAccepted : {A : Type 0} → (Refusal → A) → A → Checked → A
+onAccepted refuse x (Accepted f) = x
+onAccepted refuse x (Refused r) = refuse r

@@ -1,7 +1,7 @@
 -- What is proved: begin here. Statements only. The record Claims has one field for each subject; the statements of a subject
 -- stand in a file of its own, those about dockets in OfDocket.antt, those about the writer in OfWriter.antt, those about the
 -- order of rules in OfOrder.antt, those about the number of pairs in OfPairs.antt, those about versions in OfVersions.antt, those
--- about pages in OfPage.antt, and the proofs in the folder beside each file.
+-- about pages in OfPage.antt, those about totals in OfTotals.antt, and the proofs in the folder beside each file.
 use mathlib.Core.List.{List}
 use Prim.Native.Nat.{ℕ}
 use Rattle.claims.specs.OfDocket.{OfDocket}
@@ -10,6 +10,7 @@ use Rattle.claims.specs.OfOrder.{OfOrder}
 use Rattle.claims.specs.OfPairs.{OfPairs}
 use Rattle.claims.specs.OfVersions.{OfVersions}
 use Rattle.claims.specs.OfPage.{OfPage}
+use Rattle.claims.specs.OfTotals.{OfTotals}
 pub mod Proved
 
 -- The claims, one field for each subject.
@@ -26,3 +27,5 @@ pub record Claims : Type 0 where
   pub of-versions : OfVersions
   -- Of the call that runs the groups of a page.
   pub of-page : OfPage
+  -- Of the sheet of exact totals, which the program tally prints.
+  pub of-totals : OfTotals

@@ -2,7 +2,7 @@
 use mathlib.Core.Path.{_≡_, refl, subst}
 use mathlib.Core.Bool.{Bool, true, false}
 use mathlib.Core.List.{List, [], _∷_, _++_}
-use Prim.Native.Nat.{ℕ, _≤_}
+use Prim.Native.Nat.{ℕ, _-_, _≤_}
 use native.Mathlib.Omega.{arith}
 use lib.Dec.{ltb}
 use lib.ListN.{length, getD, take, drop, set, replicate}
@@ -11,7 +11,7 @@ use Rattle.theory.specs.Ladder.{spreads}
 use Rattle.theory.specs.Tree.{widest}
 use Rattle.theory.specs.Machine.{run, ran, admitted}
 use Rattle.shape.specs.Shape.{refusal}
-use Rattle.theory.specs.Unfold.{walking, calling}
+use Rattle.theory.specs.Unfold.{walking, calling, starting}
 use Rattle.format.specs.Format.{headerOf, Sections, sectionsOf, protocolIn}
 use Rattle.format.specs.declared.Header.{Header}
 use Rattle.format.specs.Samples.{broadcast, majority, twoOutcomes, parity, seeded, quorum}
@@ -35,19 +35,25 @@ use Rattle.machine.specs.declared.Verdict.the-variants.{Agreed}
 use Rattle.page.specs.Page.{eachPart, pageOf, countsAfterPage, resultsAfterPage}
 use Rattle.page.specs.declared.Paged.{Paged}
 use Rattle.page.specs.declared.Paged.the-variants as paged
+use Rattle.totals.specs.Totals.{stepsToRest, restsOn, restingOn, stepsAt, firstMost, sheetIn, sheetOf}
+use Rattle.totals.specs.declared.Tallied.{Tallied}
+use Rattle.totals.specs.declared.Tallied.the-variants as tallied
+use Rattle.totals.specs.declared.Tallied.the-variants.{Counted}
 use Rattle.claims.specs.OfDocket.{Rules, Demand3}
 use Rattle.claims.specs.OfWriter.{Readable, Wrote}
 use Rattle.claims.specs.OfVersions.{widened, inVersion2}
 use Rattle.claims.specs.OfOrder.{RulesAmong, SoundVersion2}
 use Rattle.claims.specs.OfPairs.{PairsTell}
 use Rattle.claims.specs.OfPage.{PagesSettle}
+use Rattle.claims.specs.OfTotals.{TotalsAre}
 use Rattle.claims.specs.Claims.Proved.{claims}
 use Rattle.claims.specs.Dockets.OneLayer.{one-layer}
 use Rattle.claims.specs.Dockets.{cut, longer, exchanged, withoutAbsent, oneLayer, inputFixed}
 
 -- A sample: what the check says of a docket; what a run with the greatest limit does from given counts; what the check says
 -- whatever the weights; what the writer of a version says of sections, and what it leaves in the output; what the start test
--- says; what the can-act call says of a rule number; what a page with this limit says, and the counts and results that it leaves.
+-- says; what the can-act call says of a rule number; what a page with this limit says, and the counts and results that it leaves; what
+-- the sheet of totals with so many agents says, and the start that it shows.
 pub data Sample : Type 0 where
   says : List ℕ → Checked → Sample
   rests : List ℕ → List ℕ → ℕ → List ℕ → Bool → Sample
@@ -56,6 +62,7 @@ pub data Sample : Type 0 where
   starts : List ℕ → List ℕ → Started → Sample
   meets : List ℕ → List ℕ → ℕ → Pairs → Sample
   pages : List ℕ → List ℕ → ℕ → List ℕ → Paged → List ℕ → List ℕ → Sample
+  tallies : List ℕ → ℕ → Tallied → List ℕ → Sample
 
 abbrev pub Holds : Sample → Type 0
 -- The check of b answers a.
@@ -76,6 +83,8 @@ Holds (starts b c a) = startOf b c ≡ a
 Holds (meets b c r a) = pairsOf b c r ≡ a
 -- The page call on b, of the counts c and the results r, answers a and leaves d and e.
 Holds (pages b c limit r a d e) = (pageOf b c r ≡ a) × (countsAfterPage b c limit r ≡ d) × (resultsAfterPage b c limit r ≡ e)
+-- The sheet of totals of b with n agents says a and shows the counts c, with 0 behind them.
+Holds (tallies b n a c) = (sheetOf b n .tallied ≡ a) × (sheetOf b n .first ≡ c ++ replicate (64 - length c) 0)
 
 abbrev pub AllHold : List Sample → Type 0
 AllHold [] = Unit {0}
@@ -204,10 +213,30 @@ pagesRun =
     ∷ pages (take 98 broadcast) (2 ∷ 1 ∷ []) 6 (replicate 2 7) (paged.Refused (refusal 1 0)) (2 ∷ 1 ∷ []) (replicate 2 7)
     ∷ []
 
+-- The totals with these figures.
+abbrev totals : ℕ → ℕ → ℕ → ℕ → ℕ → Tallied
+totals s n z o m = Counted (record { states = s; starts = n; zeros = z; ones = o; most = m })
+
+-- Samples of document 02, Job 9: majority with two workers and with three, of which 1 2 0 0 takes as many steps as 2 1 0 0, the first of
+-- the two; broadcast with three; a vote with a fixed worker in state 2, and two workers besides; then no worker, one, thirteen, a docket that is
+-- refused, and no bytes.
+abbrev pub sheetsCounted : List Sample
+sheetsCounted =
+    tallies majority 2 (totals 4 3 1 2 2) (1 ∷ 1 ∷ 0 ∷ 0 ∷ [])
+    ∷ tallies majority 3 (totals 4 4 2 2 2) (2 ∷ 1 ∷ 0 ∷ 0 ∷ [])
+    ∷ tallies broadcast 3 (totals 2 4 1 3 2) (2 ∷ 1 ∷ [])
+    ∷ tallies quorum 2 (totals 6 3 2 1 4) (2 ∷ 0 ∷ 1 ∷ 0 ∷ 0 ∷ 0 ∷ [])
+    ∷ tallies majority 0 (tallied.Refused (refusal 34 0)) []
+    ∷ tallies majority 1 (tallied.Refused (refusal 34 0)) []
+    ∷ tallies majority 13 (tallied.Refused (refusal 34 0)) []
+    ∷ tallies (set broadcast 67 1) 13 (tallied.Refused (refusal 13 2)) []
+    ∷ tallies [] 2 (tallied.Refused (refusal 1 0)) []
+    ∷ []
+
 -- The names that samples unfold.
 unfoldable sampling : ℕ
 unfolding writing shaping walking calling widened badLeaf sectionsCheck checkOf replyOf countsOf verdictOf verdictAnswer startOf startAnswer
-    pairsOf pairsAnswer eachPart pageOf countsAfterPage resultsAfterPage
+    pairsOf pairsAnswer eachPart pageOf countsAfterPage resultsAfterPage starting stepsToRest restsOn restingOn stepsAt firstMost sheetIn sheetOf
 sampling = 0
 
 pub samples-hold : AllHold samples
@@ -257,6 +286,13 @@ pages-hold = (
       ),
     ),
   ),
+)
+
+pub sheets-hold : AllHold sheetsCounted
+unfolding sampling
+sheets-hold = (
+  (refl, refl),
+  ((refl, refl), ((refl, refl), ((refl, refl), ((refl, refl), ((refl, refl), ((refl, refl), ((refl, refl), ((refl, refl), tt)))))))),
 )
 
 -- So demand 3 holds of a docket in which a pair has two outcomes: what it says of rest and verdict is not empty there.
@@ -320,3 +356,7 @@ parity-pairs = claims .of-pairs .tell parity (headerOf parity) parity-sound
 pub majority-page : PagesSettle majority (headerOf majority) (2 ∷ 1 ∷ 0 ∷ 0 ∷ 1 ∷ 0 ∷ 0 ∷ 0 ∷ 1 ∷ 1 ∷ 0 ∷ 0 ∷ 0 ∷ 3 ∷ 0 ∷ 0 ∷ []) (replicate 8 7) 2
 unfolding shaping
 majority-page = claims .of-page .settles majority (_, samples-hold .1 .1 .1 .1 .1 .1 .1 .1 .1 .1 .1 .0) _ _ (pages-hold .0 .0) 2 (omega arith)
+
+-- The totals of majority with three workers are what the claims say of them.
+pub majority-totals : TotalsAre majority 3 (record { states = 4; starts = 4; zeros = 2; ones = 2; most = 2 }) (sheetOf majority 3 .first)
+majority-totals = claims .of-totals .totals-are majority 3 _ (sheets-hold .1 .0 .0)

@@ -16,7 +16,7 @@ ghost use Rattle.counts.specs.Code.{countsFault, partnersOf, pairEnabled
 use format::Sizes;
 
 // The count of state s, 0 past the end.
-fn count(counts: &[u32], s: usize) -> u32
+pub fn count(counts: &[u32], s: usize) -> u32
     ensures { λ n. ⌜ n ≡ getD (now (counts .entry)) s 0 ⌝ }
 {
     if s < counts.len() {

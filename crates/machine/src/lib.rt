@@ -1,7 +1,7 @@
 // The machine: calls on a docket's bytes and lent counts, a 32-bit number a state. Each makes tests 1 to 8 of the docket first.
 // No such call has a requires: any bytes, any counts, any rule number and any limit may be given, and a refusal changes
 // nothing.
-// A function that ends in _in is its call on a docket that is known to pass tests 1 to 8. Those of the start test, step and run
+// A function that ends in _in is its call on a docket that is known to pass tests 1 to 8. Those of the start test, verdict, step and run
 // are public, for crates that make several calls on one docket.
 ghost use mathlib.Core.Path.{_≡_};
 ghost use mathlib.Core.Bool.{true};
@@ -144,7 +144,7 @@ pub fn is_standstill(docket: &[u8], counts: &[u32]) -> YesNo
 }
 
 // The verdict of the counts, of a docket that passes tests 1 to 8.
-fn verdict_in(docket: &[u8], h: Header, counts: &[u32]) -> Verdict
+pub fn verdict_in(docket: &[u8], h: Header, counts: &[u32]) -> Verdict
     requires { ⌜ SoundShape (now docket) h ⌝ }
     ensures { λ a. ⌜ a ≡ verdictAnswer (protocolIn (now (docket .entry)) h) (now (counts .entry)) ⌝ }
 {

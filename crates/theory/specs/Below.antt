@@ -2,6 +2,7 @@
 use mathlib.Core.Path.{_≡_}
 use mathlib.Core.Bool.{Bool, true, false, _&&_, _||_}
 use Prim.Native.Nat.{ℕ, zero, suc, _+_, _<_, min, max}
+use lib.Dec.{eqb}
 pub mod Laws
 pub mod Scan
 
@@ -38,3 +39,7 @@ least (suc n) f = min (least n f) (f n)
 unfoldable pub greatest : ℕ → (ℕ → ℕ) → ℕ
 greatest zero f = f 0
 greatest (suc n) f = max (greatest n f) (f n)
+
+-- The first number below n at which f is greatest; 0 where n is 0.
+unfoldable pub firstGreatest : ℕ → (ℕ → ℕ) → ℕ
+firstGreatest n f = firstBelow n (λ k. eqb (f k) (greatest n f))

@@ -9,5 +9,6 @@ pub mod Remainder
 pub mod Fixed
 pub mod Potential
 pub mod Machine
+pub mod Starts
 pub mod Tables
 pub mod Witnesses

@@ -3,14 +3,15 @@
 use mathlib.Core.Path.{_≡_}
 use mathlib.Core.Bool.{Bool, true, false, cond, _&&_}
 use mathlib.Core.List.{List, [], _∷_, _++_}
-use Prim.Native.Nat.{ℕ, zero, suc, _<_}
+use Prim.Native.Nat.{ℕ, zero, suc, _*_, _<_}
 use lib.ListN.{length}
 use lib.Dec.{leb, ltb, eqb}
 use Rattle.theory.specs.Below.{firstBelow}
 use Rattle.theory.specs.Protocol.{Protocol, size, enabled, fire, terminal, fires, after}
-use Rattle.theory.specs.Ladder.{Layers, enabledIn, QuietBelow, lowest}
+use Rattle.theory.specs.Ladder.{Layers, enabledIn, QuietBelow, lowest, spreads}
 pub mod Lists
 pub mod Laws
+pub mod Rest
 
 -- A step names a rule number, a run its limit.
 pub data Call : Type 0 where
@@ -98,3 +99,13 @@ module _ (P : Protocol) (L : Layers) where
   unfoldable pub numbersOf : List ℕ → List Call → List ℕ
   numbersOf c [] = []
   numbersOf c (x ∷ xs) = adds c x ++ numbersOf (countsAfter c x) xs
+
+module _ (P : Protocol) (L : Layers) (w : ℕ → ℕ → ℕ) where
+  -- The rule numbers that runs use from c until they rest (document 02, Job 9): those of a run whose limit is the rest bound. Where the
+  -- ladder passes they lead to rest (rest-terminal, in Rest).
+  unfoldable pub restNumbers : List ℕ → List ℕ
+  restNumbers c = runNumbers P L (size c * spreads P L w) c
+
+  -- The configuration that they lead to.
+  unfoldable pub restOf : List ℕ → List ℕ
+  restOf c = after P c (restNumbers c)

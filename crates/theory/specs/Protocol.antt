@@ -27,6 +27,10 @@ pub record Protocol : Type 0 where
   pub input : ℕ → Bool
   pub fixed : ℕ → ℕ
 
+-- Some state is an input.
+abbrev pub HasInput : Protocol → Type 0
+HasInput P = (s : ℕ) × (s < P .states) × (P .input s ≡ true)
+
 -- What tests 5 and 6 say of a protocol: every rule names states, its pairs are in order and differ, and some state is an
 -- input. That rules differ from each other (test 7) is not needed.
 pub record WellFormed (P : Protocol) : Type 0 where
@@ -37,7 +41,7 @@ pub record WellFormed (P : Protocol) : Type 0 where
   pub pre-ordered : (r : ℕ) → r < P .rules → P .p r ≤ P .q r
   pub post-ordered : (r : ℕ) → r < P .rules → P .p′ r ≤ P .q′ r
   pub pairs-differ : (r : ℕ) → r < P .rules → P .p r ≡ P .p′ r → P .q r ≡ P .q′ r → ⊥
-  pub some-input : (s : ℕ) × (s < P .states) × (P .input s ≡ true)
+  pub some-input : HasInput P
 
 -- The output of a configuration (document 01: its verdict): one, 0 (false) or 1 (true), in all its occupied states; or both.
 pub data Output : Type 0 where

@@ -2,7 +2,7 @@
 -- computes with.
 use Prim.Native.Nat.{ℕ}
 use Rattle.theory.specs.Bool.{member}
-use Rattle.theory.specs.Below.{allBelow, anyBelow, firstBelow, sumBelow, least, greatest}
+use Rattle.theory.specs.Below.{allBelow, anyBelow, firstBelow, sumBelow, least, greatest, firstGreatest}
 use Rattle.theory.specs.Judge.{judge}
 use Rattle.theory.specs.Weigh.{weigh}
 use Rattle.theory.specs.Protocol.{size, lose, gain, enabled, fire, terminal, shows, outputOf, unfit, startTest, fires, tried, after, meetings}
@@ -14,13 +14,14 @@ use Rattle.theory.specs.Leaf.{extra, spare, nonIncreasing, startFits, ti
 use Rattle.theory.specs.Remainder.{congruent, exactlyOne, known, conserved, startVanishes, endVanishes, excess, deficit, remainderCloses}
 use Rattle.theory.specs.Tree.{setSize, widestBelow, widest, checked, refusalNumber, forest, takes, puts, touches, follows, isTrap, isSiphon}
 use Rattle.theory.specs.Tree.{within, isSet, isModulus, children, disagreement, isRun, ground, byKind, node, treeAt, treeAnswer}
+use Rattle.theory.specs.Starts.{eachDown, startsOver, binomial, inputsOf, fixedTotal, starts}
 use Rattle.theory.specs.Machine.{isRefused, meetingsOf, isSized, isWithin, admitted, admit, chosen, runNumbers}
-use Rattle.theory.specs.Machine.{stepReply, runReply, reply, adds, countsAfter, numbersOf}
+use Rattle.theory.specs.Machine.{stepReply, runReply, reply, adds, countsAfter, numbersOf, restNumbers, restOf}
 use Rattle.theory.specs.Machine.Lists.{lastCounts, reported}
 
 -- Tests, sums and extremes below a bound.
 unfoldable pub bounds : ℕ
-unfolding allBelow anyBelow firstBelow sumBelow least greatest judge
+unfolding allBelow anyBelow firstBelow sumBelow least greatest firstGreatest judge
 bounds = 0
 
 -- Configurations, meetings and lists of rule numbers.
@@ -53,3 +54,8 @@ unfoldable pub calling : ℕ
 unfolding laddering isRefused meetingsOf isSized isWithin admitted admit chosen runNumbers
     stepReply runReply reply adds countsAfter lastCounts numbersOf reported
 calling = 0
+
+-- The starts, each run until it rests.
+unfoldable pub starting : ℕ
+unfolding calling eachDown startsOver binomial inputsOf fixedTotal starts restNumbers restOf
+starting = 0

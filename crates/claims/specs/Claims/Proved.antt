@@ -5,6 +5,7 @@ use Rattle.claims.specs.OfOrder.Proved.{of-order}
 use Rattle.claims.specs.OfPairs.Proved.{of-pairs}
 use Rattle.claims.specs.OfVersions.Proved.{of-versions}
 use Rattle.claims.specs.OfPage.Proved.{of-page}
+use Rattle.claims.specs.OfTotals.Proved.{of-totals}
 use Rattle.claims.specs.Claims.{Claims}
 
 pub claims : Claims
@@ -15,4 +16,5 @@ claims = record {
   of-pairs = of-pairs;
   of-versions = of-versions;
   of-page = of-page;
+  of-totals = of-totals;
 }

@@ -9,7 +9,7 @@ use lib.Dec.{eqb}
 use Rattle.theory.specs.Bool.Laws.{by-test, is-false}
 use Rattle.theory.specs.Below.Laws.{all-elim, all-intro}
 use Rattle.theory.specs.Judge.{Passes}
-use Rattle.theory.specs.Judge.Laws.{judge-passes, passes-judge}
+use Rattle.theory.specs.Judge.Laws.{passes-judge}
 use Rattle.theory.specs.Protocol.{Protocol}
 use Rattle.theory.specs.Ladder.{Layers, lowersAt, lowering, handoverAt, handover, Laddered}
 use Rattle.theory.specs.Ladder.Handover.{handover-exact}
@@ -21,16 +21,15 @@ use Rattle.theory.specs.Claims.{Certified}
 use Rattle.theory.specs.Claims.Proved.{theorems}
 use Rattle.format.specs.Format.{Sections, sectionsOf, protocolIn, layersIn, weightIn, weightsOf}
 use Rattle.format.specs.declared.Header.{Header}
-use Rattle.shape.specs.Shape.{byShape, shapeOf}
+use Rattle.shape.specs.Shape.{byShape}
 use Rattle.shape.specs.Sound.{SoundShape}
-use Rattle.shape.specs.Sound.Laws.{sound-shape, shape-sound}
-use Rattle.shape.specs.declared.Shape as shapes
-use Rattle.shape.specs.declared.Shape.the-variants as shape
+use Rattle.shape.specs.Sound.Laws.{shape-sound}
 use Rattle.leaf.specs.Leaf.Laws.{leaf-good, leaf-bad}
 use Rattle.checker.specs.Check.{certificateTests, walkOf, summaryOf, treeCheck, sectionsCheck, checkOf}
+use Rattle.checker.specs.Check.Laws.{refused-not-accepted, accepted-tests, accepted-shape, passes-laddered}
 use Rattle.checker.specs.declared.Summary.{Summary}
 use Rattle.checker.specs.declared.Checked.the-variants.{Accepted, Refused}
-use Rattle.claims.specs.OfDocket.Refusals.{refuse, refused-not-accepted, refusal-is}
+use Rattle.claims.specs.OfDocket.Refusals.{refuse, refusal-is}
 use Rattle.claims.specs.OfDocket.Handover.{refused-by-10}
 use Rattle.claims.specs.OfDocket.{Lowers, treeIn, assumed, Rules, Demand2}
 
@@ -105,7 +104,7 @@ module _ (b : List ℕ) (h : Header) where
   kept f sound e =
       let ts = certificateTests (h .sizes) x in
       let end = treeCheck said (walkOf (h .sizes) x) in
-      let p = judge-passes refuse end (Accepted f) (λ n k. refused-not-accepted) ts e in
+      let p = accepted-tests (h .sizes) x f e in
       let v = walk-passes said f _ (sym (passes-judge refuse end ts p) ∙ e) in
       let j = tree-ends P (assumed b h) (treeIn b h) (v .0) (v .1) in
       record {
@@ -117,13 +116,7 @@ module _ (b : List ℕ) (h : Header) where
       }
 
   pub laddered : Rules b h → Laddered P L w
-  unfolding lowering handover
-  laddered k = record {
-    formed = k .shape .sections .formed;
-    partition = k .shape .sections .partition;
-    lowering-passes = all-intro _ (lowersAt P L w) (λ r l. lowers-test r (k .lowering r l));
-    handover-passes = handover-exact P L (k .shape .sections .formed) .1 (k .handover);
-  }
+  laddered k = passes-laddered b h (k .shape) (passes k)
 
   pub certified : Rules b h → Certified P
   certified k = record {
@@ -137,12 +130,7 @@ module _ (b : List ℕ) (h : Header) where
 
 module _ (b : List ℕ) where
   kept-of : (f : Summary) → checkOf b ≡ Accepted f → (h : Header) × Rules b h
-  unfolding checkOf
-  kept-of f e = go (shapeOf b) refl e
-    where
-      go : (s : shapes.Shape) → shapeOf b ≡ s → byShape Refused (λ k. sectionsCheck (k .sizes) (sectionsOf b k)) s ≡ Accepted f → (h : Header) × Rules b h
-      go (shape.Sound h) u g = (h, kept b h f (sound-shape b h u) g)
-      go (shape.Refused r) u g = absurd (refused-not-accepted g)
+  kept-of f e = let s = accepted-shape b f e in (s .0, kept b (s .0) f (s .1) (s .2))
 
   pub demand-2 : Demand2 b
   demand-2 = record {

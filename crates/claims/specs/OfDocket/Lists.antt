@@ -30,12 +30,12 @@ module _ (b : List ℕ) (h : Header) (sound : SoundShape b h) where
   abbrev L : Layers
   L = layersIn b h
 
-  same-last : (c : List ℕ) (xs : List Call) → lastOn b c xs ≡ lastCounts P L c xs
+  pub same-last : (c : List ℕ) (xs : List Call) → lastOn b c xs ≡ lastCounts P L c xs
   unfolding lastOn lastCounts
   same-last c [] = refl
   same-last c (x ∷ xs) = ap (λ d. lastOn b d xs) (counts-sound b h sound c x) ∙ same-last (countsAfter P L c x) xs
 
-  same-reported : (c : List ℕ) (xs : List Call) → reportedOn b c xs ≡ reported P L c xs
+  pub same-reported : (c : List ℕ) (xs : List Call) → reportedOn b c xs ≡ reported P L c xs
   unfolding reportedOn reported
   same-reported c [] = refl
   same-reported c (x ∷ xs) = rw (reply-sound b h sound c x, counts-sound b h sound c x, same-reported (countsAfter P L c x) xs)

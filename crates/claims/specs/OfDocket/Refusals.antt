@@ -3,7 +3,6 @@ use mathlib.Core.Path.{_≡_, sym, ap, _∙_}
 use mathlib.Core.List.{List}
 use mathlib.Core.Logic.{_↔_, _⊎_, inl, inr, ⊎-elim}
 use Prim.Native.Nat.{ℕ}
-use native.Mathlib.Omega.{arith}
 use Rattle.theory.specs.Judge.{judge, Passes, FirstFits}
 use Rattle.theory.specs.Judge.Laws.{judge-map, judge-append, passes-judge, refused-by, fits-refuses}
 use Rattle.theory.specs.Tree.{Walked, next, refused}
@@ -13,6 +12,7 @@ use Rattle.format.specs.Format.{headerOf, sectionsOf, protocolIn}
 use Rattle.shape.specs.Shape.{refusal, shapeTests, headerShape, shapeOf, byShape}
 use Rattle.shape.specs.declared.Shape.the-variants as shape
 use Rattle.checker.specs.Check.{certificateTests, walkOf, summaryOf, treeCheck, sectionsCheck, checkOf}
+use Rattle.checker.specs.Check.Laws.{refused-not-accepted}
 use Rattle.checker.specs.declared.Summary.{Summary}
 use Rattle.checker.specs.declared.Checked.{Checked}
 use Rattle.checker.specs.declared.Checked.the-variants.{Accepted, Refused}
@@ -32,9 +32,6 @@ placeIn (Refused r) = r .place
 
 pub tells : (n k m j : ℕ) → refuse n k ≡ refuse m j → (n ≡ m) × (k ≡ j)
 tells n k m j e = (ap numberIn e, ap placeIn e)
-
-pub refused-not-accepted : {n k : ℕ} {f : Summary} → refuse n k ≡ Accepted f → ⊥
-refused-not-accepted {n} {k} {f} e = let z : _≡_ {A = ℕ} 0 1 = cc in omega arith
 
 pub walk-refused : (f : Summary) (a : Walked) (n k : ℕ) → treeCheck f a ≡ refuse n k → a ≡ refused n k
 walk-refused f (next j) n k e = absurd (refused-not-accepted (sym e))

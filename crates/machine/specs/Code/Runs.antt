@@ -1,8 +1,8 @@
 -- Where a run stands after so many steps. Assumes nothing.
-use mathlib.Core.Path.{_≡_, refl, sym, ap, _∙_}
+use mathlib.Core.Path.{_≡_, sym, ap, _∙_}
 use mathlib.Core.Bool.{true, false}
 use mathlib.Core.List.{List, [], _∷_}
-use Prim.Native.Nat.{ℕ, zero, suc, _+_, _-_, _≤_, _<_}
+use Prim.Native.Nat.{ℕ, suc, _+_, _-_, _≤_, _<_}
 use native.Mathlib.Omega.{arith}
 use borrow.Author.Tests.{leb-true, eq-eqb, ne-eqb}
 use lib.Dec.{leb, eqb}
@@ -14,6 +14,7 @@ use Rattle.theory.specs.Protocol.Lists.{tried-fires, rule-fires}
 use Rattle.theory.specs.Ladder.{Layers, OrderedPartition}
 use Rattle.theory.specs.Machine.{ran, run, isSized, isWithin, admitted, chosen, runNumbers, runReply, countsAfter}
 use Rattle.theory.specs.Machine.Laws.{adds-on, admitted-sized, reply-run}
+use Rattle.theory.specs.Machine.Rest.{at-rest, not-at-rest}
 use Rattle.machine.specs.Code.{Replies}
 use Rattle.machine.specs.Code.Laws.{chosen-enabled, terminal-chosen}
 
@@ -24,17 +25,6 @@ pub record Running (P : Protocol) (L : Layers) (limit : ℕ) (c : List ℕ) (k :
   pub total : length (runNumbers P L limit c) ≡ k + length (runNumbers P L (limit - k) d)
   pub sized : length d ≡ P .states
   pub small : size d ≤ 1000000
-
--- The rule numbers that a run uses at rest, and where a rule is enabled.
-module _ (P : Protocol) (L : Layers) (d : List ℕ) where
-  rest-numbers : (n : ℕ) → terminal P d ≡ true → runNumbers P L n d ≡ []
-  unfolding runNumbers
-  rest-numbers zero t = refl
-  rest-numbers (suc n) t = rw (t, runNumbers)
-
-  step-numbers : (n : ℕ) → terminal P d ≡ false → runNumbers P L (suc n) d ≡ chosen P L d ∷ runNumbers P L n (fire P d (chosen P L d))
-  unfolding runNumbers
-  step-numbers n t = rw (t, runNumbers)
 
 -- At the start of a run, after a turn, and at its end: at the limit, or at rest.
 module _ (P : Protocol) (L : Layers) (limit : ℕ) (c : List ℕ) where
@@ -62,7 +52,7 @@ module _ (P : Protocol) (L : Layers) (limit : ℕ) (c : List ℕ) where
         let next : d′ ≡ fire P d (chosen P L d) = f ∙ ap (fire P d) e in
         let left : limit - k ≡ suc (limit - (k + 1)) = omega arith in
         let numbers : runNumbers P L (limit - k) d ≡ chosen P L d ∷ runNumbers P L (limit - (k + 1)) d′ =
-        ap (λ n. runNumbers P L n d) left ∙ step-numbers P L d (limit - (k + 1)) t ∙ ap (λ x. chosen P L d ∷ runNumbers P L (limit - (k + 1)) x) (sym next) in
+        ap (λ n. runNumbers P L n d) left ∙ not-at-rest P L (limit - (k + 1)) d t ∙ ap (λ x. chosen P L d ∷ runNumbers P L (limit - (k + 1)) x) (sym next) in
         let firing : Firing P d (chosen P L d) = record { sized = g .sized; rule = s .0; on = s .1 } in
         record {
           within = omega arith;
@@ -92,6 +82,6 @@ module _ (P : Protocol) (L : Layers) (limit : ℕ) (c : List ℕ) where
     running-limit on l = done on (ap (λ n. runNumbers P L n d) (let z : limit - k ≡ 0 = omega arith in z))
 
     pub running-rest : admitted P c ≡ true → r ≡ P .rules → Replies P L c (run limit) (ran k (eqb r (P .rules))) d
-    running-rest on q = done on (rest-numbers P L d (limit - k) (terminal-chosen P part d ∙ eq-eqb (chosen P L d) (P .rules) (sym e ∙ q)))
+    running-rest on q = done on (at-rest P L (limit - k) d (terminal-chosen P part d ∙ eq-eqb (chosen P L d) (P .rules) (sym e ∙ q)))
 
 pub ruleset running = (running-none, running-length, running-more, running-limit, running-rest)

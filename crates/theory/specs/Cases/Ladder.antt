@@ -28,7 +28,7 @@ exchanged = record { count = 2; of = column (1 ∷ 1 ∷ 0 ∷ 0 ∷ []) }
 abbrev pub castWeights : ℕ → ℕ → ℕ
 castWeights = rows ((1 ∷ 0 ∷ []) ∷ [])
 
-abbrev voteWeights : ℕ → ℕ → ℕ
+abbrev pub voteWeights : ℕ → ℕ → ℕ
 voteWeights = rows ((1 ∷ 1 ∷ 0 ∷ 1 ∷ []) ∷ (0 ∷ 0 ∷ 1 ∷ 0 ∷ []) ∷ [])
 
 abbrev steepWeights : ℕ → ℕ → ℕ

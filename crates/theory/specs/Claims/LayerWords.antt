@@ -1,41 +1,21 @@
 -- The words about layers are document 01's. Assumes nothing.
-use mathlib.Core.Path.{_≡_, refl, sym, ap, _∙_}
+use mathlib.Core.Path.{_≡_, refl, sym}
 use mathlib.Core.Bool.{true, false}
 use mathlib.Core.List.{List, [], _∷_}
 use mathlib.Core.Logic.{_↔_, by-cases}
-use Prim.Native.Nat.{ℕ, zero, suc, _-_, _≤_, _<_, min, max}
+use Prim.Native.Nat.{ℕ, zero, suc, _-_, _≤_, _<_}
 use native.Mathlib.Decide.{decLt}
 use native.Mathlib.Omega.{arith}
 use borrow.Author.Tests.{eq-eqb}
-use Rattle.theory.specs.Bool.Laws.{by-test, not-both, is-true, is-false, and-intro, imp-intro}
-use Rattle.theory.specs.Below.{least, greatest}
-use Rattle.theory.specs.Below.Laws.{first-le, least-le, le-greatest}
+use Rattle.theory.specs.Bool.Laws.{not-both, is-true, is-false, and-intro, imp-intro}
+use Rattle.theory.specs.Below.Laws.{first-le, least-le, le-greatest, least-at, greatest-at}
 use Rattle.theory.specs.Protocol.{Protocol, WellFormed, enabled, terminal, fires, tried, EachMeeting}
-use Rattle.theory.specs.Protocol.Laws.{not-terminal-on, terminal-off}
+use Rattle.theory.specs.Protocol.Laws.{terminal-off}
 use Rattle.theory.specs.Protocol.Lists.{fires-rule}
 use Rattle.theory.specs.Ladder.{Layers, OrderedPartition, active, QuietBelow, lowest, layered, spread}
 use Rattle.theory.specs.Ladder.Active.{active-elim, active-intro, lowest-quiet, lowest-le, lowest-active, not-terminal-lowest}
 use Rattle.theory.specs.Ladder.Lists.{layered-each}
 use Rattle.theory.specs.Claims.{LayersAre}
-
--- The least and the greatest are attained.
-least-at : (f : ℕ → ℕ) (n : ℕ) → (s : ℕ) × (s < suc n) × (least (suc n) f ≡ f s)
-unfolding least
-least-at f zero = (0, omega arith, omega arith)
-least-at f (suc n) =
-    let ih = least-at f n in
-    by-cases (decLt (f (suc n)) (least (suc n) f))
-    (λ l. (suc n, omega arith, omega arith))
-    (λ g. (ih .0, omega (arith, ih .1), omega (arith, ih .2)))
-
-greatest-at : (f : ℕ → ℕ) (n : ℕ) → (s : ℕ) × (s < suc n) × (greatest (suc n) f ≡ f s)
-unfolding greatest
-greatest-at f zero = (0, omega arith, omega arith)
-greatest-at f (suc n) =
-    let ih = greatest-at f n in
-    by-cases (decLt (greatest (suc n) f) (f (suc n)))
-    (λ l. (suc n, omega arith, omega arith))
-    (λ g. (ih .0, omega (arith, ih .1), omega (arith, ih .2)))
 
 spread-is : (f : ℕ → ℕ) (n : ℕ) → 0 < n → (s : ℕ) × (t : ℕ) × (s < n) × (t < n) × (spread n f ≡ f s - f t) × ((u : ℕ) → u < n → (f t ≤ f u) × (f u ≤ f s))
 unfolding spread

@@ -29,6 +29,7 @@ use Rattle.theory.specs.Potential.{Potential}
 use Rattle.theory.specs.Potential.Reached.{reached, reach}
 use Rattle.theory.specs.Machine.Lists.{lastCounts, reported}
 use Rattle.theory.specs.Machine.{Call, step, run, ran, isRefused, isSized, admitted, runNumbers, stepReply, runReply, reply, numbersOf}
+use Rattle.theory.specs.Machine.Rest.{run-rests}
 use Rattle.theory.specs.Machine.Laws.{RunList, admitted-last, tries, reply-step, reply-run, reply-off, lastCounts-off, reported-off}
 use Rattle.theory.specs.Machine.Laws.{step-no-rule, step-not-enabled, step-fires, step-refused, runNumbers-is, lastCounts-after}
 use Rattle.theory.specs.Machine.Laws.{numbersOf-append, numbersOf-snoc, reported-meetings}
@@ -220,17 +221,10 @@ module _ (P : Protocol) {L : Layers} {w : ℕ → ℕ → ℕ} (lad : Laddered P
         falls : (rs : List ℕ) → layered P L c rs ≡ true → rank P L w (after P c rs) + meetings P c rs ≤ rank P L w c
         falls rs = rank-after P lad c rs long
 
-    -- A run whose limit is no less than the rest bound rests.
-    run-rests : (limit : ℕ) → size c * spreads P L w ≤ limit → terminal P (after P c (runNumbers P L limit c)) ≡ true
-    run-rests limit h =
-        let r = runNumbers-is P (lad .partition) limit c in
-        by-cases (decLt (length (runNumbers P L limit c)) limit) (r .short)
-        (λ g. layered-rests P lad c (runNumbers P L limit c) long (r .is-layered) (omega (arith, rank-is .bound, r .all-meet)))
-
     some-list : (rs : List ℕ) × (layered P L c rs ≡ true) × (terminal P (after P c rs) ≡ true)
     some-list =
         let limit = size c * spreads P L w in
-        (runNumbers P L limit c, runNumbers-is P (lad .partition) limit c .is-layered, run-rests limit (omega arith))
+        (runNumbers P L limit c, runNumbers-is P (lad .partition) limit c .is-layered, run-rests P lad c long limit (omega arith))
 
   module _ (c : List ℕ) (long : length c ≡ P .states) where
     calls-rest : CallsRest P L w c (reply P L) (lastCounts P L c) (reported P L c)
@@ -253,7 +247,7 @@ module _ (P : Protocol) {L : Layers} {w : ℕ → ℕ → ℕ} (lad : Laddered P
           let d = lastCounts P L c xs in
           let said = run-makes P (lad .formed) (lad .partition) c on xs limit in
           let end = counts-more P (lad .formed) (lad .partition) c on xs (run limit) in
-          let rest = run-rests d (ap length (to xs) ∙ length-after P c (numbersOf P L c xs) ∙ long) limit
+          let rest = run-rests P lad d (ap length (to xs) ∙ length-after P c (numbersOf P L c xs) ∙ long) limit
           (rw (to xs, numbers .size-kept (numbersOf P L c xs)) l) in
           (said .steps, said .says ∙ ap (ran (said .steps)) (said .at-rest ∙ ap (terminal P) end ∙ rest));
     }

@@ -28,7 +28,7 @@ module _ (P : Protocol) where
   admitted-sized c e = eqb-true _ _ (and-elim _ _ e .0)
 
   module _ {A : Type 0} (c : List ℕ) (f : ℕ → A) (x : A) where
-    admit-on : admitted P c ≡ true → admit P c f x ≡ x
+    pub admit-on : admitted P c ≡ true → admit P c f x ≡ x
     unfolding admitted admit
     admit-on e = let t = and-elim (isSized P c) (isWithin c) e in rw (t .0, t .1)
 
@@ -131,13 +131,13 @@ module _ (P : Protocol) (L : Layers) where
     pub short : length rs < limit → terminal P (after P c rs) ≡ true
     pub uses : EachTried P (Uses P L) c rs
 
-  -- Counts that pass do so after every list of calls.
-  pub admitted-last : WellFormed P → (c : List ℕ) (xs : List Call) → admitted P c ≡ true → admitted P (lastCounts P L c xs) ≡ true
+  -- Counts that pass do so after every list of rule numbers, and of calls.
+  pub admitted-after : WellFormed P → (c rs : List ℕ) → admitted P c ≡ true → admitted P (after P c rs) ≡ true
   unfolding admitted isSized isWithin
-  admitted-last good c xs e =
-      let rs = numbersOf P L c xs in
-      let long = admitted-sized P c e in
-      rw (lastCounts-after c xs, length-after P c rs, size-after P good c rs long) e
+  admitted-after good c rs e = let long = admitted-sized P c e in rw (length-after P c rs, size-after P good c rs long) e
+
+  pub admitted-last : WellFormed P → (c : List ℕ) (xs : List Call) → admitted P c ≡ true → admitted P (lastCounts P L c xs) ≡ true
+  admitted-last good c xs e = ap (admitted P) (lastCounts-after c xs) ∙ admitted-after good c (numbersOf P L c xs) e
 
 module _ (P : Protocol) {L : Layers} (part : OrderedPartition P L) where
   -- ---- Runs

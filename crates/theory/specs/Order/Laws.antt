@@ -7,6 +7,7 @@ use Prim.Native.Nat.{ℕ, zero, suc, _≤_, _<_}
 use native.Mathlib.Decide.{decLt, ℕ-discrete}
 use native.Mathlib.Omega.{arith}
 use borrow.Author.Tests.{lt-ltb, le-ltb, ltb-true, eq-eqb, ne-eqb, eqb-true}
+use lib.ListN.{length, getD}
 use lib.Dec.{ltb, eqb}
 use Rattle.theory.specs.Bool.Laws.{and-intro, and-elim, or-left, or-right, or-elim}
 use Rattle.theory.specs.Below.Laws.{below-suc}
@@ -15,7 +16,7 @@ use Rattle.theory.specs.Order.{lexLess, Ascending}
 -- ---- Two lists
 
 -- The first number decides, or the rest does where the first is the same.
-less-first : (x y : ℕ) (xs ys : List ℕ) → x < y → lexLess (x ∷ xs) (y ∷ ys) ≡ true
+pub less-first : (x y : ℕ) (xs ys : List ℕ) → x < y → lexLess (x ∷ xs) (y ∷ ys) ≡ true
 unfolding lexLess
 less-first x y xs ys l = or-left (ltb x y) _ (lt-ltb x y l)
 
@@ -27,7 +28,7 @@ less-elim x y xs ys h =
     (λ e. let t = and-elim (eqb x y) (lexLess xs ys) e in inr (eqb-true x y (t .0), t .1))
     (or-elim (ltb x y) (eqb x y && lexLess xs ys) h)
 
-less-rest : (x y : ℕ) (xs ys : List ℕ) → x ≡ y → lexLess xs ys ≡ true → lexLess (x ∷ xs) (y ∷ ys) ≡ true
+pub less-rest : (x y : ℕ) (xs ys : List ℕ) → x ≡ y → lexLess xs ys ≡ true → lexLess (x ∷ xs) (y ∷ ys) ≡ true
 unfolding lexLess
 less-rest x y xs ys e h = or-right (ltb x y) _ (and-intro _ _ (eq-eqb x y e) h)
 
@@ -59,6 +60,39 @@ less-is (x ∷ xs) (y ∷ ys) = (
       (less-first x y xs ys)
       (λ e. less-rest x y xs ys (e .0) (less-is xs ys .1 (e .1))),
 )
+
+-- The first place where two lists of one length differ decides.
+pub record LessAt (xs ys : List ℕ) (k : ℕ) : Type 0 where
+  pub inside : k < length xs
+  pub same : (i : ℕ) → i < k → getD xs i 0 ≡ getD ys i 0
+  pub less : getD xs k 0 < getD ys k 0
+
+pub less-place : (xs ys : List ℕ) → length xs ≡ length ys → lexLess xs ys ≡ true → (k : ℕ) × LessAt xs ys k
+unfolding lexLess
+less-place [] [] e h = absurd (false≢true h)
+less-place [] (y ∷ ys) e h = absurd (omega arith)
+less-place (x ∷ xs) [] e h = absurd (omega arith)
+less-place (x ∷ xs) (y ∷ ys) e h =
+    ⊎-elim
+    (λ (l : x < y). (0, record { inside = omega arith; same = λ i m. absurd (omega arith); less = l }))
+    (λ d.
+    let t = less-place xs ys (omega arith) (d .1) in
+    (suc (t .0), record { inside = omega (arith, t .1 .inside); same = behind (d .0) (t .0) (t .1 .same); less = t .1 .less }))
+    (less-elim x y xs ys h)
+  where
+    behind : x ≡ y → (k : ℕ) → ((i : ℕ) → i < k → getD xs i 0 ≡ getD ys i 0)
+        → (i : ℕ) → i < suc k → getD (x ∷ xs) i 0 ≡ getD (y ∷ ys) i 0
+    behind d k same zero m = d
+    behind d k same (suc i) m = same i (omega arith)
+
+pub place-less : (xs ys : List ℕ) (k : ℕ) → length xs ≡ length ys → LessAt xs ys k → lexLess xs ys ≡ true
+place-less [] ys k e p = absurd (omega (arith, p .inside))
+place-less (x ∷ xs) [] k e p = absurd (omega arith)
+place-less (x ∷ xs) (y ∷ ys) zero e p = less-first x y xs ys (p .less)
+place-less (x ∷ xs) (y ∷ ys) (suc k) e p =
+    less-rest x y xs ys (p .same 0 (omega arith))
+    (place-less xs ys k (omega arith)
+    (record { inside = omega (arith, p .inside); same = λ i l. p .same (suc i) (omega arith); less = p .less }))
 
 pub less-irreflexive : (xs : List ℕ) → lexLess xs xs ≡ true → ⊥
 unfolding lexLess

@@ -305,9 +305,23 @@ module _ (P : Protocol) (c : List ℕ) where
     λ start. first-is (P .states) (unfit P c) (P .states) (omega arith) (λ s l. fit-rule s .1 (start .rule s l)) (λ l. absurd (omega arith)),
   )
 
+  -- What keeps the start rule: just the fixed agents, or at an input more.
+  pub rule-bare : (s : ℕ) → count c s ≡ P .fixed s → StartRule P c s
+  rule-bare s e = record { others = λ _. e; inputs = λ _. omega arith }
+
+  pub rule-input : (s : ℕ) → P .input s ≡ true → P .fixed s ≤ count c s → StartRule P c s
+  rule-input s i l = record { others = λ o. absurd (not-both i o); inputs = λ _. l }
+
+  -- A state that keeps it holds its fixed agents; one that holds more is an input.
+  pub rule-fixed : (s : ℕ) → StartRule P c s → P .fixed s ≤ count c s
+  rule-fixed s rule = by-test (P .input s) (rule .inputs) (λ e. omega (arith, rule .others e))
+
+  pub rule-spare : (s : ℕ) → StartRule P c s → P .fixed s < count c s → P .input s ≡ true
+  rule-spare s rule l = is-true _ (λ e. omega (arith, rule .others e))
+
   -- Every state holds its fixed agents; where it is no input, only these.
   pub start-fixed : Start P c → (s : ℕ) → s < P .states → P .fixed s ≤ count c s
-  start-fixed start s l = by-test (P .input s) (start .rule s l .inputs) (λ e. omega (arith, start .rule s l .others e))
+  start-fixed start s l = rule-fixed s (start .rule s l)
 
   pub start-only : Start P c → (s : ℕ) → s < P .states → onlyFixed P s ≡ true → count c s ≡ P .fixed s
   start-only start s l e = start .rule s l .others (not-true _ (and-elim (ltb 0 (P .fixed s)) (not (P .input s)) e .1))

@@ -13,7 +13,7 @@ use borrow.Author.Tests.{eq-eqb}
 use Rattle.theory.specs.Bool.{bit}
 use Rattle.theory.specs.Bool.Laws.{by-test, is-false, or-none, or-fails}
 use Rattle.theory.specs.Below.{sumBelow}
-use Rattle.theory.specs.Below.Laws.{sum-front, sum-mono, sum-add}
+use Rattle.theory.specs.Below.Laws.{sum-front, sum-mono, sum-less, sum-add, table}
 use Rattle.theory.specs.Weigh.{weigh}
 
 -- The weighed sum after one number of the list is set.
@@ -57,6 +57,24 @@ weigh-compare c v w f g h =
 
 pub weigh-mono : (v w : ℕ → ℕ) (c : List ℕ) → ((i : ℕ) → i < length c → v i ≤ w i) → weigh v c ≤ weigh w c
 weigh-mono v w c h = omega (arith, weigh-compare c v w (λ _. 0) (λ _. 0) (λ i l. omega (arith, mul-le-mul-right (getD c i 0) (h i l))))
+
+-- Lists of one length compared number by number: one less, and none more.
+pub weigh-less : (w : ℕ → ℕ) (c d : List ℕ) → length c ≡ length d
+    → ((i : ℕ) → i < length c → w i * getD c i 0 ≤ w i * getD d i 0)
+    → (k : ℕ) → k < length c → w k * getD c k 0 < w k * getD d k 0 → weigh w c < weigh w d
+weigh-less w c d e h k l m =
+    omega (
+      arith,
+      weigh-sum w c,
+      weigh-sum w d,
+      ap (λ n. sumBelow n (λ i. w i * getD d i 0)) e,
+      sum-less (length c) (λ i. w i * getD c i 0) (λ i. w i * getD d i 0) h k l m,
+    )
+
+pub weigh-table : (w f : ℕ → ℕ) (n : ℕ) → weigh w (table n f) ≡ sumBelow n (λ i. w i * f i)
+unfolding weigh table sumBelow
+weigh-table w f zero = refl
+weigh-table w f (suc n) = omega (arith, weigh-table (λ i. w (suc i)) (λ i. f (suc i)) n, sum-front n (λ i. w i * f i))
 
 -- One number's share is at most the whole.
 pub weigh-at : (w : ℕ → ℕ) (c : List ℕ) (i : ℕ) → w i * getD c i 0 ≤ weigh w c

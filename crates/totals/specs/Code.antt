@@ -46,10 +46,10 @@ pub record Turning (b : List ℕ) (h : Header) (c : List ℕ) (k : ℕ) (going :
   pub rests : going ≡ false → terminal (protocolIn b h) d ≡ true
 
 -- Whether the verdict is v.
-abbrev pub isVerdict : Bool → Verdict → Bool
-isVerdict v (shown.Agreed u) = Bool·beq u v
-isVerdict v shown.Mixed = false
-isVerdict v (shown.Refused r) = false
+abbrev pub agreesOn : Bool → Verdict → Bool
+agreesOn v (shown.Agreed u) = Bool·beq u v
+agreesOn v shown.Mixed = false
+agreesOn v (shown.Refused r) = false
 
 -- The totals are small enough for one start more.
 pub record Room (t : Totals) : Type 0 where
@@ -57,16 +57,20 @@ pub record Room (t : Totals) : Type 0 where
   pub zeros : t .zeros ≤ t .starts
   pub ones : t .ones ≤ t .starts
 
--- The totals t and one start more, which takes so many steps and rests on this verdict.
-unfoldable pub withStart : Totals → ℕ → Verdict → Totals
-withStart t steps v =
+-- The totals t and one start more, which takes so many steps; whether it rests on 0, and whether on 1.
+unfoldable pub added : Totals → ℕ → Bool → Bool → Totals
+added t steps zero one =
     record {
       states = t .states;
       starts = t .starts + 1;
-      zeros = t .zeros + bit (isVerdict false v);
-      ones = t .ones + bit (isVerdict true v);
+      zeros = t .zeros + bit zero;
+      ones = t .ones + bit one;
       most = max (t .most) steps;
     }
+
+-- The same, where it rests on this verdict.
+abbrev pub withStart : Totals → ℕ → Verdict → Totals
+withStart t steps v = added t steps (agreesOn false v) (agreesOn true v)
 
 -- Whether a start that takes so many steps, after the totals t, takes more than every start before it, or is the first start.
 unfoldable pub needsMost : Totals → ℕ → Bool
@@ -74,15 +78,8 @@ needsMost t steps = eqb (t .starts) 0 || ltb (t .most) steps
 
 module _ (P : Protocol) (L : Layers) (w : ℕ → ℕ → ℕ) where
   -- The totals t and start c more.
-  unfoldable pub counted : Totals → List ℕ → Totals
-  counted t c =
-      record {
-        states = t .states;
-        starts = t .starts + 1;
-        zeros = t .zeros + bit (restsOn P L w false c);
-        ones = t .ones + bit (restsOn P L w true c);
-        most = max (t .most) (stepsToRest P L w c);
-      }
+  abbrev pub counted : Totals → List ℕ → Totals
+  counted t c = added t (stepsToRest P L w c) (restsOn P L w false c) (restsOn P L w true c)
 
   -- What holds after the first t .starts starts: the totals t are theirs, and `first` is the first of them that needs the greatest step
   -- total. Where `going`, the counts are the next start; else there is none.
@@ -92,6 +89,5 @@ module _ (P : Protocol) (L : Layers) (w : ℕ → ℕ → ℕ) where
     pub ones : t .ones ≡ restingOn P L w n true (t .starts)
     pub most : t .most ≡ cond (eqb (t .starts) 0) 0 (greatest (t .starts) (stepsAt P L w n))
     pub first-is : 0 < t .starts → first ≡ startAt P n (firstGreatest (t .starts) (stepsAt P L w n))
-    pub within : t .starts ≤ length (starts P n)
     pub next : going ≡ true → (t .starts < length (starts P n)) × (counts ≡ startAt P n (t .starts))
     pub done : going ≡ false → t .starts ≡ length (starts P n)

@@ -10,7 +10,7 @@ ghost use Rattle.theory.specs.Machine.{restOf, meetingsOf};
 ghost use Rattle.format.specs.Format.{protocolIn, layersIn, weightIn};
 ghost use Rattle.machine.specs.Code.{replyOfRun};
 ghost use Rattle.totals.specs.Totals.{stepsToRest, firstMost, totalsOf, Allowed, refusedSheet, fullSheet, sheetIn, sheetOf};
-ghost use Rattle.totals.specs.Code.{Runs, Group, goesOn, isVerdict, Room, withStart, needsMost, counted};
+ghost use Rattle.totals.specs.Code.{Runs, Group, goesOn, agreesOn, Room, withStart, needsMost, counted};
 use checker::Checked;
 use format::Header;
 use machine::Ran;
@@ -93,8 +93,8 @@ fn copy(from: &[u32], to: &mut [u32])
 }
 
 // 1 where the verdict is this one, else 0.
-fn is_verdict(verdict: Verdict, v: bool) -> u64
-    ensures { λ n. ⌜ n ≡ bit (isVerdict v verdict) ⌝ }
+fn agrees_on(verdict: Verdict, v: bool) -> u64
+    ensures { λ n. ⌜ n ≡ bit (agreesOn v verdict) ⌝ }
 {
     match verdict {
         Verdict::Agreed(u) => { if u == v { 1 } else { 0 } }
@@ -125,8 +125,8 @@ fn with_start(t: Totals, steps: u64, verdict: Verdict) -> Totals
     Totals {
         states: t.states,
         starts: t.starts + 1,
-        zeros: t.zeros + is_verdict(verdict, false),
-        ones: t.ones + is_verdict(verdict, true),
+        zeros: t.zeros + agrees_on(verdict, false),
+        ones: t.ones + agrees_on(verdict, true),
         most: greater(t.most, steps),
     }
 }

@@ -27,7 +27,7 @@ use Rattle.machine.specs.declared.Verdict.{Verdict}
 use Rattle.machine.specs.declared.Verdict.the-variants as shown
 use Rattle.shape.specs.declared.Refusal.{Refusal}
 use Rattle.totals.specs.Totals.{stepsToRest}
-use Rattle.totals.specs.Code.{Runs, Group, Turning, goesOn, isVerdict, withStart}
+use Rattle.totals.specs.Code.{Runs, Group, Turning, goesOn, agreesOn, added, withStart}
 use Rattle.totals.specs.declared.Totals.{Totals}
 
 -- ---- One run
@@ -44,11 +44,11 @@ module _ (a : Ran) (n : ℕ) where
 -- ---- The verdict
 
 module _ (a : Verdict) (v u : Bool) (e : a ≡ shown.Agreed u) (n : ℕ) where
-  pub verdict-hit : Bool·beq u v ≡ true → n ≡ 1 → n ≡ bit (isVerdict v a)
-  verdict-hit t q = q ∙ sym (ap (λ x. bit (isVerdict v x)) e ∙ ap bit t)
+  pub verdict-hit : Bool·beq u v ≡ true → n ≡ 1 → n ≡ bit (agreesOn v a)
+  verdict-hit t q = q ∙ sym (ap (λ x. bit (agreesOn v x)) e ∙ ap bit t)
 
-  pub verdict-miss : Bool·beq u v ≡ false → n ≡ 0 → n ≡ bit (isVerdict v a)
-  verdict-miss t q = q ∙ sym (ap (λ x. bit (isVerdict v x)) e ∙ ap bit t)
+  pub verdict-miss : Bool·beq u v ≡ false → n ≡ 0 → n ≡ bit (agreesOn v a)
+  verdict-miss t q = q ∙ sym (ap (λ x. bit (agreesOn v x)) e ∙ ap bit t)
 
 -- ---- Runs until rest
 
@@ -180,7 +180,7 @@ pub bit-most : (t : Bool) → bit t ≤ 1
 bit-most true = omega arith
 bit-most false = omega arith
 
-pub with-start : (t : Totals) (steps : ℕ) (v : Verdict) (z o m : ℕ) → z ≡ bit (isVerdict false v) → o ≡ bit (isVerdict true v) → m ≡ max (t .most) steps
+pub with-start : (t : Totals) (steps : ℕ) (v : Verdict) (z o m : ℕ) → z ≡ bit (agreesOn false v) → o ≡ bit (agreesOn true v) → m ≡ max (t .most) steps
     → _≡_ {A = Totals} (record { states = t .states; starts = t .starts + 1; zeros = t .zeros + z; ones = t .ones + o; most = m }) (withStart t steps v)
-unfolding withStart
+unfolding added
 with-start t steps v z o m hz ho hm = rw (hz, ho, hm)

@@ -31,7 +31,7 @@ use Rattle.machine.specs.Calls.{verdictAs, verdictAnswer}
 use Rattle.machine.specs.declared.Verdict.{Verdict}
 use Rattle.starts.specs.Code.{AtLeastFixed}
 use Rattle.totals.specs.Totals.{isAgreed, stepsToRest, restsOn, restingOn, stepsAt, totalsOf, firstMost, Allowed}
-use Rattle.totals.specs.Code.{Runs, Group, isVerdict, Room, withStart, needsMost, counted, Tallying}
+use Rattle.totals.specs.Code.{Runs, Group, agreesOn, Room, added, withStart, needsMost, counted, Tallying}
 use Rattle.totals.specs.Code.Laws.{bit-most, group-admitted}
 use Rattle.totals.specs.declared.Totals.{Totals}
 
@@ -40,7 +40,7 @@ use Rattle.totals.specs.declared.Totals.{Totals}
 pub group-same : (P : Protocol) (c d : List ℕ) → Group P c → d ≡ c → Group P d
 group-same P c d g e = subst (Group P) (sym e) g
 
-verdict-is : (v : Bool) (o : Output) → isVerdict v (verdictAs o) ≡ isAgreed v o
+verdict-is : (v : Bool) (o : Output) → agreesOn v (verdictAs o) ≡ isAgreed v o
 verdict-is v (agreed u) = refl
 verdict-is v mixed = refl
 
@@ -61,13 +61,13 @@ module _ (b : List ℕ) (h : Header) (good : Runs b h) where
       steps-is = hs ∙ ap (stepsToRest P L w) hd
 
       pub counted-is : (e : List ℕ) (v : Verdict) (r : Totals) → e ≡ restOf P L w d → v ≡ verdictAnswer P e → r ≡ withStart t steps v → r ≡ counted P L w t c
-      unfolding withStart counted restsOn verdictAnswer restOf
+      unfolding restsOn verdictAnswer restOf
       counted-is e v r he hv hr =
           let to : e ≡ restOf P L w c = he ∙ ap (restOf P L w) hd in
           let on : admitted P e ≡ true = ap (admitted P) to ∙ admitted-after P L (good .ladder .formed) c _ (group-admitted b h good c group) in
           let says : v ≡ verdictAs (outputOf P (restOf P L w c)) =
           hv ∙ admit-on P e _ (verdictAs (outputOf P e)) on ∙ ap (λ x. verdictAs (outputOf P x)) to in
-          let of : (u : Bool) → isVerdict u v ≡ restsOn P L w u c = λ u. ap (isVerdict u) says ∙ verdict-is u (outputOf P (restOf P L w c)) in
+          let of : (u : Bool) → agreesOn u v ≡ restsOn P L w u c = λ u. ap (agreesOn u) says ∙ verdict-is u (outputOf P (restOf P L w c)) in
           hr ∙ rw (of false, of true, steps-is)
 
       module _ (f old : List ℕ) (q : Bool) (hq : q ≡ needsMost t steps) where
@@ -142,7 +142,6 @@ module _ (b : List ℕ) (h : Header) (good : Runs b h) where
             ones = refl;
             most = refl;
             first-is = λ l. absurd (omega arith);
-            within = omega arith;
             next = λ _. (p .0, e ∙ first-same n ∙ sym (p .1));
             done = λ u. absurd (true≢false u);
           }
@@ -230,7 +229,7 @@ module _ (b : List ℕ) (h : Header) (good : Runs b h) where
 
           module _ (t′ : Totals) (ht : t′ ≡ counted P L w t c) where
             one-start : t′ .starts ≡ t .starts + 1
-            unfolding counted
+            unfolding added
             one-start = ap (λ x. x .starts) ht
 
             pub tallying-less : length (starts P n) - t′ .starts < length (starts P n) - t .starts
@@ -259,14 +258,13 @@ module _ (b : List ℕ) (h : Header) (good : Runs b h) where
                   )
 
               pub tallying-more : Tallying P L w n t′ first′ going′ c′
-              unfolding counted
+              unfolding added
               tallying-more = rw ht (record {
                 states = g .states;
                 zeros = resting-more false (t .zeros) (g .zeros);
                 ones = resting-more true (t .ones) (g .ones);
                 most = most-more;
                 first-is = λ _. place-more first′ hf;
-                within = omega (arith, g .next on .0);
                 next = next-more;
                 done = done-more;
               })

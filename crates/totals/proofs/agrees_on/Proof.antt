@@ -1,8 +1,8 @@
--- `totals::is_verdict` meets its contract, by the case of the verdict.
+-- `totals::agrees_on` meets its contract, by the case of the verdict.
 use Rattle.totals.specs.Code.Laws.{verdict-hit, verdict-miss}
 use borrow.Author.Needs.{needs}
-use Rattle.totals.proofs.is_verdict.Statement.{statement}
-use Rattle.totals.proofs.is_verdict.Tie as tie
+use Rattle.totals.proofs.agrees_on.Statement.{statement}
+use Rattle.totals.proofs.agrees_on.Tie as tie
 
 enum-known-verdict : tie.Need-enum-known-verdict
 enum-known-verdict c = search needs
@@ -25,7 +25,7 @@ returns-3 c = search needs
 returns-4 : tie.Need-returns-4
 returns-4 c = search needs
 
-pub is-verdict-spec : {M : Type 1} → statement M
-is-verdict-spec =
+pub agrees-on-spec : {M : Type 1} → statement M
+agrees-on-spec =
     tie.close
     (tie.spec enum-known-verdict enum-told enum-told-2 returns returns-2 returns-3 returns-4)

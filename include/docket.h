@@ -1,41 +1,42 @@
 /*
- * Checks dockets, runs their tables on counts of workers, and writes dockets from their parts. C99 or later, or C++;
- * x86-64. Link with the static library:
+ * Checks dockets, alone or with a claim sheet, runs their tables on counts of workers, and writes dockets from their parts.
+ * C99 or later, or C++; x86-64. Link with the static library:
  *
  *     tools/library              (proves the functions and writes target/staticlib/libdocket.a)
  *     cc -Iinclude reader.c target/staticlib/libdocket.a
  *
- * Call docket_check or docket_figures first, and use the table only where it returns 0. The calls of the machine (all
- * functions with counts) make only tests 1 to 8, so they work on a docket that docket_check refuses too, and such a
- * table may never come to rest. They make these tests in every call: to make many meetings, use docket_run rather than
- * docket_step again and again, and to run many groups, docket_run_page. docket_write needs no docket: it is lent the five
- * sections and makes the header.
+ * Call docket_check or docket_figures first, and use the table only where it returns 0; docket_check_sheet makes that
+ * check too. The calls of the machine (all functions with counts) make only tests 1 to 8, so they work on a docket
+ * that docket_check refuses too, and such a table may never come to rest. They make these tests in every call: to make
+ * many meetings, use docket_run rather than docket_step again and again, and to run many groups, docket_run_page.
+ * docket_write needs no docket: it is lent the five sections and makes the header.
  *
  * Dockets are of version 1 or 2; every function takes both. A docket of version 2 has a number of fixed workers for each
  * state, which every start has there; in version 1 this number is 0 for every state. Counts are of all workers, the fixed
  * ones among them. In version 2 the rules stand in ascending order by layer, then by p, q, p', q'; in version 1 in any.
  *
- * What a caller hands over. A docket is a pointer to its bytes and their number; any bytes may be given, at any address.
- * The parts and the output of docket_write are handed over in the same way. Counts are one uint32_t for each state of
- * the docket, in order, and their number; docket_run_page takes the counts of many groups. Counts, answers, results,
- * figures and the total are aligned as their types are. No pointer is null, also where a length is 0, and no two of them
- * overlap.
+ * What a caller hands over. A docket is a pointer to its bytes and their number; any bytes may be given, at any
+ * address. A claim sheet, and the parts and the output of docket_write, are handed over in the same way. Counts are
+ * one uint32_t for each state of the docket, in order, and their number; docket_run_page takes the counts of many
+ * groups. Counts, answers, results, figures and the total are aligned as their types are. No pointer is null, also
+ * where a length is 0, and no two of them overlap.
  *
  * What a function does. It writes only where it says here; it keeps nothing between calls and allocates nothing. So the
  * functions may be called from several threads at once, each with its own counts, answers, results and output. They use
- * about 32 KB of stack where a tree is 40 deep, else less; DOCKET_STACK bytes are enough. The library needs memcpy and
+ * about 42 KB of stack where a tree is 40 deep, else less; DOCKET_STACK bytes are enough. The library needs memcpy and
  * memset at most, and no other function from elsewhere.
  *
- * What a function returns: 0 where it did its work, else a refusal, which has a number and a place. There is a table of
- * tests for the check, for the calls of the machine, for docket_run_page and for docket_write. The tests are made in
- * the order of the table, from above, and not in that of their numbers, each over all its places before the next
- * begins: the first test that fails gives the number, and the lowest place at which it fails the place. Tests 12 and 13
- * alone are made together, node by node in the order of the file: at each node 12 before 13, and the first node at
- * which one fails ends the check. So a 13 at an earlier node comes before a 12 at a later one.
- * docket_check and docket_figures return the number times 65,536 plus the place; the others, where a place can be any
- * 32-bit rule number, the number times 2 to the power 32 plus the place. So each has its own pair of functions below
- * that take a refusal apart. A refused call changes neither counts nor output, and neither reads nor writes behind a
- * pointer for answers, results, figures or the total.
+ * What a function returns: 0 where it did its work, else a refusal, which has a number and a place. There is a table
+ * of tests for the check, for docket_check_sheet, for the calls of the machine, for docket_run_page and for
+ * docket_write. The tests are made in the order of the table, from above, and not in that of their numbers, each over
+ * all its places before the next begins: the first test that fails gives the number, and the lowest place at which it
+ * fails the place. Tests 12 and 13 alone are made together, node by node in the order of the file: at each node 12
+ * before 13, and the first node at which one fails ends the check. So a 13 at an earlier node comes before a 12 at a
+ * later one.
+ * docket_check, docket_figures and docket_check_sheet return the number times 65,536 plus the place; the others, where
+ * a place can be any 32-bit rule number, the number times 2 to the power 32 plus the place. So each has its own pair
+ * of functions below that take a refusal apart. A refused call changes neither counts nor output, and neither reads
+ * nor writes behind a pointer for answers, results, figures or the total.
  *
  * S is the number of states, R of rules, L of layers, N of nodes and K of leaves, as the header of the docket has them.
  * Numbers of states, rules, layers, leaves and nodes begin at 0. docs/FORMAT.md has the whole format.
@@ -65,6 +66,19 @@
  *
  * 14 is tried straight after 7 and before 8, though its number is larger: "tests 1 to 8" are all rows down to that of 8,
  * so 14 is among them, and among "5 to 8" and "1 to 13".
+ *
+ * docket_check_sheet makes all tests above on the docket, then the following on its claim sheet: 15, then 12 and 13 on the
+ * sheet's first tree, node by node, then on its second. N1 and N2 are the numbers of nodes of the two trees, as the header
+ * of the sheet has them; nodes are numbered through both, so the second tree's begin at N1.
+ *
+ *   15      0                     a length, count, offset, number, weight or multiplier of the sheet breaks its rule
+ *                                 (FORMAT.md, 10.2)
+ *   12      node, or one past     a bad field, party 2 and kind 7 among them, a depth over 40 (each root has depth 1), or a
+ *           its tree's last       node left over; N1: the nodes of the first tree ran out, or the second tree's first node
+ *                                 has a bad field; N1 + N2: those of the second ran out (FORMAT.md, 10.3)
+ *   13      node                  its ground does not hold (FORMAT.md, 10.3)
+ *
+ * A 12 or 13 of the sheet is not told from one of the docket by its number: where that matters, call docket_check first.
  *
  * Calls of the machine make tests 1 to 8, then those of the following that apply, in this order:
  *
@@ -104,8 +118,8 @@
 extern "C" {
 #endif
 
-#define DOCKET_VERSION "0.10.0"   /* of this header and its library, not of a docket */
-#define DOCKET_MAX_BYTES 65535   /* a longer file is refused with 1, 0; so read at most one byte more */
+#define DOCKET_VERSION "0.11.0"   /* of this header and its library, not of a docket */
+#define DOCKET_MAX_BYTES 65535   /* a longer docket is 1, 0, and a longer sheet 15, 0; so read at most one byte more */
 #define DOCKET_MAX_STATES 64     /* the counts of a group of every docket fit an array of so many */
 #define DOCKET_MAX_RULES 256     /* a number for each rule of every docket fits an array of so many */
 #define DOCKET_STACK 65536       /* bytes of stack that are enough for every function */
@@ -117,6 +131,15 @@ uint64_t docket_check(const uint8_t *docket, size_t docket_len);
    of the layers' spreads, and how many states the widest set of the tree names. A vote of n workers comes to rest after
    at most n times W meetings; n times W is at most 16,000,000,000,000. */
 uint64_t docket_figures(const uint8_t *docket, size_t docket_len, uint64_t figures[6]);
+
+/* The same check, and then that of a claim sheet, which says what the votes of the docket decide: 0 where both are accepted.
+   The sheet has a number for each state and a limit c. The weighed sum of a start is each state's number times its count,
+   added up over all states, the fixed workers among them. Where the function returns 0, every standstill reached from a
+   start of two workers or more shows 1 if the weighed sum is at least c, else 0: for every number of workers, and whatever
+   the meetings and their order.
+   A refusal of the docket comes before 15, that before those of the sheet's first tree, and these before those of its second.
+   The sheet is not needed to run a vote, and no other function reads it. */
+uint64_t docket_check_sheet(const uint8_t *docket, size_t docket_len, const uint8_t *sheet, size_t sheet_len);
 
 /* The start test: 0 where the counts are 2 to 1,000,000 workers, exactly the fixed ones in states that are no input, and
    at least the fixed ones in each input. In version 1: workers in inputs only. */
@@ -184,7 +207,7 @@ uint64_t docket_write(uint32_t version, const uint8_t *states, size_t states_len
 /* The number of states of a docket that passes tests 1 to 8: how many counts a group has. */
 static inline size_t docket_states(const uint8_t *docket) { return docket[2] + 256u * docket[3]; }
 
-/* The number and the place of a refusal of docket_check or docket_figures. */
+/* The number and the place of a refusal of docket_check, docket_figures or docket_check_sheet. */
 static inline uint32_t docket_check_number(uint64_t code) { return (uint32_t)(code / 65536); }
 static inline uint32_t docket_check_place(uint64_t code) { return (uint32_t)(code % 65536); }
 
@@ -224,6 +247,8 @@ static inline const char *docket_refusal_text(uint32_t number)
         return "The ground of a node does not hold.";
     case 14:
         return "A rule does not stand after the one before it, in the order that version 2 asks for.";
+    case 15:
+        return "A length, count, offset, number, weight or multiplier of the claim sheet breaks its rule.";
     case 20:
         return "There is not one count for each state.";
     case 21:

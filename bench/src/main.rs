@@ -22,7 +22,7 @@ use std::hash::{DefaultHasher, Hash, Hasher};
 use std::hint::black_box;
 use std::time::Instant;
 use tests::calls::{self, Call};
-use tests::make::{fixed, remainder};
+use tests::make::{fixed, remainder, sheet};
 use tests::{make, native, program};
 
 const ROUNDS: usize = 15;
@@ -169,6 +169,7 @@ struct Inputs {
     pairs: Vec<(String, Vec<u8>, Vec<u32>)>,
     pages: Vec<(String, Vec<u8>, Vec<u32>)>,
     totals: Vec<(String, Vec<u8>, u64)>,
+    sheets: Vec<(String, Vec<u8>, Vec<u8>)>,
     writes: Vec<(String, Vec<u8>)>,
 }
 
@@ -182,6 +183,7 @@ impl Inputs {
             pairs: pairs(),
             pages: pages(),
             totals: totals(),
+            sheets: sheets(),
             writes: writes(),
         }
     }
@@ -209,6 +211,8 @@ impl Inputs {
         cases.extend(pages.map(|(name, docket, counts)| page_case(name, docket, counts)));
         let totals = self.totals.iter();
         cases.extend(totals.map(|(name, input, starts)| totals_case(name, input, *starts)));
+        let sheets = self.sheets.iter();
+        cases.extend(sheets.map(|(name, docket, sheet)| sheet_case(name, docket, sheet)));
         cases.extend(self.writes.iter().map(|(name, docket)| write_case(name, docket)));
         cases
     }
@@ -570,6 +574,39 @@ fn totals_case<'a>(name: &str, input: &'a [u8], starts: u64) -> Case<'a> {
         unit: "start",
         units: starts,
         calls,
+    }
+}
+
+/// Dockets with accepted claim sheets.
+fn sheets() -> Vec<(String, Vec<u8>, Vec<u8>)> {
+    let relay = make::relay(60, 5);
+    let large = make::layered(64, 256, 1, 6, 1);
+    let fixed = fixed::with_fixed(large.clone(), &[1000]);
+    let of_relay = sheet::relay_sheet(&relay, 1024, 128);
+    let [of_large, of_fixed] = [&large, &fixed].map(|docket| sheet::unreached_sheet(docket, 1024, 128));
+    let (majority, of_majority) = sheet::claimed_majority([0, 0]);
+    [
+        ("majority", majority, of_majority),
+        ("60 states, two trees of 1,024 nodes", relay, of_relay),
+        ("every count of the sheet at its limit", large, of_large),
+        ("v2, every count of the sheet at its limit", fixed, of_fixed),
+    ]
+    .map(|(name, docket, sheet)| (format!("sheet, {name}"), docket.bytes(), sheet.to_bytes()))
+    .into()
+}
+
+/// The check of the docket is part of the time, which for the large sheets is that of the trees.
+fn sheet_case<'a>(name: &str, docket: &'a [u8], sheet: &'a [u8]) -> Case<'a> {
+    assert!(second::check_sheet(docket, sheet).is_ok(), "{name} is not accepted");
+    Case {
+        name: name.into(),
+        unit: "check",
+        units: 1,
+        calls: [
+            Box::new(move || native::check_sheet(black_box(docket), black_box(sheet))),
+            Box::new(move || baseline::check_sheet_code(black_box(docket), black_box(sheet))),
+            Box::new(move || calls::check_sheet_code(black_box(docket), black_box(sheet))),
+        ],
     }
 }
 

@@ -1,7 +1,11 @@
 //! The parsed docket, tests 1 to 8, of which 14 is one, the check as a whole, and the file of a docket.
 
 use crate::{ladder, tree};
+use std::ops::Add;
 use std::slice::Chunks;
+
+/// The length of the header.
+const HEADER: usize = 24;
 
 /// The most fixed agents of a state.
 const MOST_FIXED: i64 = 1000;
@@ -106,7 +110,7 @@ pub(crate) fn refuse<T>(number: u32, place: usize) -> Result<T, Refusal> {
 }
 
 /// The weights of a pair together.
-pub(crate) fn together(weights: &[i64], pair: [usize; 2]) -> i64 {
+pub(crate) fn together<T: Copy + Add<Output = T>>(weights: &[T], pair: [usize; 2]) -> T {
     weights[pair[0]] + weights[pair[1]]
 }
 
@@ -182,7 +186,7 @@ pub(crate) fn read(version: u32, sections: [&[u8]; 5]) -> Result<Docket, Refusal
 
 /// Tests 1 to 4; hands back the version and the bytes of the five sections.
 pub fn sections(docket: &[u8]) -> Result<(u32, [&[u8]; 5]), Refusal> {
-    if docket.len() < 24 || u16_at(docket, 22) != docket.len() {
+    if docket.len() < HEADER || u16_at(docket, 22) != docket.len() {
         return refuse(1, 0);
     }
     let version = u16_at(docket, 0) as u32;
@@ -190,7 +194,8 @@ pub fn sections(docket: &[u8]) -> Result<(u32, [&[u8]; 5]), Refusal> {
     let counts: [usize; 5] = std::array::from_fn(|i| u16_at(docket, 2 + 2 * i));
     count_test(counts)?;
     let records = record_lengths(version, counts[0]);
-    let ends = ends(std::array::from_fn(|i| counts[i] * records[i]));
+    let lengths: [usize; 5] = std::array::from_fn(|i| counts[i] * records[i]);
+    let ends = ends(HEADER, &lengths);
     if let Some(place) = (0..6).find(|&i| u16_at(docket, 12 + 2 * i) != ends[i]) {
         return refuse(4, place);
     }
@@ -232,11 +237,12 @@ pub fn record_lengths(version: u32, states: usize) -> [usize; 5] {
     [state_length(version), 5, weights, 12, weights]
 }
 
-/// Where each of five sections of these lengths begins, and where the last one ends.
-fn ends(lengths: [usize; 5]) -> [usize; 6] {
-    let mut ends = [24; 6];
-    for (i, length) in lengths.iter().enumerate() {
-        ends[i + 1] = ends[i] + length;
+/// Where each of the sections of these lengths begins, the first behind a header of this length, and where the last one
+/// ends.
+pub(crate) fn ends(header: usize, lengths: &[usize]) -> Vec<usize> {
+    let mut ends = vec![header];
+    for length in lengths {
+        ends.push(ends[ends.len() - 1] + length);
     }
     ends
 }
@@ -301,7 +307,7 @@ fn layer_test(docket: &Docket) -> Result<(), Refusal> {
     Ok(())
 }
 
-fn u16_at(bytes: &[u8], at: usize) -> usize {
+pub(crate) fn u16_at(bytes: &[u8], at: usize) -> usize {
     usize::from(u16::from_le_bytes([bytes[at], bytes[at + 1]]))
 }
 
@@ -326,7 +332,7 @@ fn read_layer(record: &[u8]) -> Vec<i64> {
     numbers.map(i64::from).collect()
 }
 
-fn read_node(record: &[u8]) -> Node {
+pub(crate) fn read_node(record: &[u8]) -> Node {
     let set = std::array::from_fn(|state| (record[4 + state / 8] >> (state % 8)) & 1 == 1);
     Node {
         kind: record[0],
@@ -336,9 +342,14 @@ fn read_node(record: &[u8]) -> Node {
     }
 }
 
+/// Signed 16-bit numbers behind each other.
+pub(crate) fn read_signed(bytes: &[u8]) -> Vec<i64> {
+    let numbers = bytes.chunks(2).map(|b| i16::from_le_bytes([b[0], b[1]]));
+    numbers.map(i64::from).collect()
+}
+
 fn read_leaf(record: &[u8]) -> Leaf {
-    let numbers = record.chunks(2).map(|b| i16::from_le_bytes([b[0], b[1]]));
-    let mut y1: Vec<i64> = numbers.map(i64::from).collect();
+    let mut y1 = read_signed(record);
     let y2 = y1.split_off(y1.len() / 2);
     Leaf { y1, y2 }
 }
@@ -366,7 +377,8 @@ impl Docket {
 
 /// The header with this version and these counts, each number cut to its width in the file, and the sections behind it.
 pub(crate) fn assemble(version: u32, counts: [usize; 5], sections: [&[u8]; 5]) -> Vec<u8> {
-    let header = [&[version as usize], &counts[..], &ends(sections.map(<[u8]>::len))].concat();
+    let ends = ends(HEADER, &sections.map(<[u8]>::len));
+    let header = [&[version as usize], &counts[..], &ends].concat();
     let header = header.iter().flat_map(|&number| (number as u16).to_le_bytes());
     header.chain(sections.concat()).collect()
 }
@@ -382,7 +394,7 @@ fn rule_bytes(rule: &Rule) -> [u8; 5] {
     [p, q, p1, q1, rule.layer].map(|number| number as u8)
 }
 
-fn node_bytes(node: &Node) -> [u8; 12] {
+pub(crate) fn node_bytes(node: &Node) -> [u8; 12] {
     let [low, high] = (node.argument as u16).to_le_bytes();
     let mut record = [node.kind, node.party as u8, low, high, 0, 0, 0, 0, 0, 0, 0, 0];
     for state in 0..64 {
@@ -404,13 +416,15 @@ pub(crate) mod samples {
         text.split_terminator(';').map(row).collect()
     }
 
-    fn node(row: &[u64]) -> Node {
-        Node {
+    /// Nodes from the kind, the party, the argument and the set field of each.
+    pub fn nodes(text: &str) -> Vec<Node> {
+        let node = |row: &Vec<u64>| Node {
             kind: row[0] as u8,
             party: row[1] as usize,
             argument: row[2] as usize,
             set: bits(row[3]),
-        }
+        };
+        rows(text).iter().map(node).collect()
     }
 
     /// A set field with this number.
@@ -419,7 +433,7 @@ pub(crate) mod samples {
     }
 
     /// A docket of version 1 with no leaf from the bytes of its states and the records of its rules, layers and nodes.
-    pub fn docket(states: &str, rules: &str, layers: &str, nodes: &str) -> Docket {
+    pub fn docket(states: &str, rules: &str, layers: &str, tree: &str) -> Docket {
         let bytes = |row: &Vec<u64>| row.iter().map(|&number| number as u8).collect::<Vec<u8>>();
         Docket {
             version: 1,
@@ -433,7 +447,7 @@ pub(crate) mod samples {
                 .iter()
                 .map(|row| row.iter().map(|&weight| weight as i64).collect())
                 .collect(),
-            nodes: rows(nodes).iter().map(|row| node(row)).collect(),
+            nodes: nodes(tree),
             leaves: vec![],
         }
     }

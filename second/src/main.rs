@@ -1,5 +1,6 @@
 //! Reads standard input and prints the line that a program of the proved implementation prints for it: `docket` for a
-//! docket or, with the argument `tally`, `tally` for one byte n and the docket behind it.
+//! docket; with the argument `tally`, `tally` for one byte n and the docket behind it; with the argument `decides`,
+//! `decides` for a docket's length, the docket and its claim sheet.
 //!
 //! Exit status: 0 accepted, 1 refused, 2 trouble, which is said on standard error.
 
@@ -7,12 +8,14 @@ use std::io::{Read, Write};
 use std::process::ExitCode;
 
 const USAGE: &str = "\
-usage: docket-second <FILE          the line of the program docket: FILE is a docket
-       docket-second tally <FILE    the line of the program tally: FILE is one byte n and a docket
+usage: docket-second <FILE            the line of the program docket: FILE is a docket
+       docket-second tally <FILE      the line of the program tally: FILE is one byte n and a docket
+       docket-second decides <FILE    the line of the program decides: FILE is the length of a docket, a 16-bit
+                                      little-endian number, then the docket, then its claim sheet
 exit status: 0 accepted, 1 refused, 2 trouble
 ";
 
-/// One more than a docket can have, so that a longer file is refused for its length.
+/// One more than a docket or a claim sheet can have, so that a longer file is refused for its length.
 const MOST_BYTES: u64 = 65_536;
 
 fn main() -> ExitCode {
@@ -24,6 +27,10 @@ fn main() -> ExitCode {
         [argument] if argument == "tally" => answer(1 + MOST_BYTES, |input| {
             let said = second::tally(input);
             (second::tally_line(&said), said.is_ok())
+        }),
+        [argument] if argument == "decides" => answer(2 + 2 * MOST_BYTES, |input| {
+            let said = second::decides(input);
+            (second::decides_line(&said), said.is_ok())
         }),
         _ => {
             eprint!("{USAGE}");

@@ -1,10 +1,31 @@
-//! The tree: leaf weights (test 11), fields and grounds of the nodes (tests 12 and 13), and the widest set.
+//! The tree: leaf weights (test 11), fields and grounds of the nodes (tests 12 and 13), and the widest set. The trees of a
+//! claim sheet are walked by the same functions.
 
 use crate::docket::{refuse, together, Docket, Leaf, Node, Refusal, Rule};
 use std::ops::RangeInclusive;
 
 const GREATEST_DEPTH: usize = 40;
 const MODULI: RangeInclusive<u64> = 2..=1000;
+pub(crate) const LEAF_WEIGHTS: RangeInclusive<i64> = -10_000..=10_000;
+
+/// A tree and what it assumes: runs from one start, each to an end that holds a state of an assumed output.
+pub(crate) struct Tree<'a> {
+    pub docket: &'a Docket,
+    pub nodes: &'a [Node],
+    /// The output assumed for the end of run 1, and for that of run 2 where there are two runs.
+    pub assumed: &'a [u8],
+    pub leaves: Vec<Weights>,
+    /// Whether there may be nodes of kind 7.
+    pub remainders: bool,
+}
+
+/// What a leaf gives to its rule: weights for the end of each run, weights for the start, and what the upper sum begins
+/// with.
+pub(crate) struct Weights {
+    pub ends: Vec<Vec<i128>>,
+    pub start: Vec<i128>,
+    pub upper: i128,
+}
 
 /// What is known on the way down. The first index is the party: 0 the start, 1 and 2 the runs with their ends. The
 /// second is the state, or for `unused` the rule.
@@ -20,17 +41,28 @@ struct Facts {
 pub(crate) fn leaf_weight_test(docket: &Docket) -> Result<(), Refusal> {
     for (place, leaf) in docket.leaves.iter().enumerate() {
         let mut weights = leaf.y1.iter().chain(&leaf.y2);
-        if weights.any(|&weight| !(-10_000..=10_000).contains(&weight)) {
+        if weights.any(|weight| !LEAF_WEIGHTS.contains(weight)) {
             return refuse(11, place);
         }
     }
     Ok(())
 }
 
-/// Tests 12 and 13, node by node.
+/// Tests 12 and 13 on the tree of a docket: two runs, to an end with output 0 and to an end with output 1.
 pub(crate) fn tree_test(docket: &Docket) -> Result<(), Refusal> {
-    let left_over = descend(docket, &Facts::fresh(docket), 0, 1)?;
-    if left_over < docket.nodes.len() {
+    walk(&Tree {
+        docket,
+        nodes: &docket.nodes,
+        assumed: &[0, 1],
+        leaves: docket.leaves.iter().map(Weights::of_leaf).collect(),
+        remainders: true,
+    })
+}
+
+/// Tests 12 and 13, node by node.
+pub(crate) fn walk(tree: &Tree) -> Result<(), Refusal> {
+    let left_over = descend(tree, &Facts::fresh(tree.docket), 0, 1)?;
+    if left_over < tree.nodes.len() {
         return refuse(12, left_over);
     }
     Ok(())
@@ -44,58 +76,59 @@ pub(crate) fn widest(docket: &Docket) -> u64 {
 }
 
 /// Tests the node at a place and all below it; hands back the place after them.
-fn descend(docket: &Docket, facts: &Facts, place: usize, depth: usize) -> Result<usize, Refusal> {
-    let Some(node) = docket.nodes.get(place) else {
+fn descend(tree: &Tree, facts: &Facts, place: usize, depth: usize) -> Result<usize, Refusal> {
+    let Some(node) = tree.nodes.get(place) else {
         return refuse(12, place);
     };
-    if depth > GREATEST_DEPTH || !fields_hold(docket, node) {
+    if depth > GREATEST_DEPTH || !fields_hold(tree, node) {
         return refuse(12, place);
     }
-    if !ground_holds(docket, facts, node) {
+    if !ground_holds(tree, facts, node) {
         return refuse(13, place);
     }
     let mut next = place + 1;
-    for child in facts.of_children(docket, node) {
-        next = descend(docket, &child, next, depth + 1)?;
+    for child in facts.of_children(tree.docket, node) {
+        next = descend(tree, &child, next, depth + 1)?;
     }
     Ok(next)
 }
 
 /// Whether the fields are those of the node's kind, and those not named are 0.
-fn fields_hold(docket: &Docket, node: &Node) -> bool {
+fn fields_hold(tree: &Tree, node: &Node) -> bool {
+    let (states, rules, runs) = (tree.docket.states.len(), tree.docket.rules.len(), tree.assumed.len());
     let no_set = !node.set.contains(&true);
-    let subset = !node.set[docket.states.len()..].contains(&true);
-    let run = node.party == 1 || node.party == 2;
-    let leaf = node.party == 0 && node.argument < docket.leaves.len();
+    let subset = !node.set[states..].contains(&true);
+    let run = (1..=runs).contains(&node.party);
+    let leaf = node.party == 0 && node.argument < tree.leaves.len();
     match node.kind {
         0 => leaf && no_set,
         1 => run && node.argument == 0 && no_set,
-        2 | 4 => node.party <= 2 && node.argument < docket.states.len() && no_set,
-        3 => run && node.argument < docket.rules.len() && no_set,
+        2 | 4 => node.party <= runs && node.argument < states && no_set,
+        3 => run && node.argument < rules && no_set,
         5 | 6 => run && node.argument == 0 && !no_set && subset,
-        7 => leaf && MODULI.contains(&node.modulus()),
+        7 => tree.remainders && leaf && MODULI.contains(&node.modulus()),
         _ => false,
     }
 }
 
 /// Whether the ground of a node holds, after its fields are found good.
-fn ground_holds(docket: &Docket, facts: &Facts, node: &Node) -> bool {
+fn ground_holds(tree: &Tree, facts: &Facts, node: &Node) -> bool {
+    let (docket, leaf) = (tree.docket, || &tree.leaves[node.argument]);
     match node.kind {
-        0 => leaf_closes(docket, facts, &docket.leaves[node.argument]),
-        1 => verdict_absent(docket, facts, node.party),
+        0 => leaf_closes(docket, facts, leaf()),
+        1 => output_absent(docket, facts, node.party, tree.assumed[node.party - 1]),
         2 => facts.present[node.party][node.argument] && facts.absent[node.party][node.argument],
         5 => trap_holds(docket, facts, node),
         6 => siphon_holds(docket, facts, node),
-        7 => remainder_closes(docket, facts, &docket.leaves[node.argument], node.modulus() as i64),
+        7 => remainder_closes(docket, facts, leaf(), i128::from(node.modulus())),
         _ => true,
     }
 }
 
-/// Kind 1: party 1, all states of verdict 0 absent at end 1; party 2, all of verdict 1 absent at end 2.
-fn verdict_absent(docket: &Docket, facts: &Facts, party: usize) -> bool {
-    let verdict = if party == 1 { 0 } else { 1 };
+/// Kind 1: all states of the output assumed for an end are absent there.
+fn output_absent(docket: &Docket, facts: &Facts, end: usize, output: u8) -> bool {
     let mut states = docket.states.iter().enumerate();
-    states.all(|(i, state)| state.verdict != verdict || facts.absent[party][i])
+    states.all(|(i, state)| state.verdict != output || facts.absent[end][i])
 }
 
 /// Kind 5: the set is absent at the end, and each rule not unused in the run that takes from the set puts into it.
@@ -115,34 +148,35 @@ fn meets(pair: [usize; 2], set: &[bool; 64]) -> bool {
 }
 
 /// The leaf rule: no rule not unused raises its run's weights, and the lower sum exceeds the upper sum.
-fn leaf_closes(docket: &Docket, facts: &Facts, leaf: &Leaf) -> bool {
-    let raises = |y: &[i64], rule: &Rule| together(y, rule.after) > together(y, rule.before);
+fn leaf_closes(docket: &Docket, facts: &Facts, leaf: &Weights) -> bool {
+    let raises = |y: &[i128], rule: &Rule| together(y, rule.after) > together(y, rule.before);
     match (lower_sum(facts, leaf), upper_sum(docket, facts, leaf)) {
         (Some(lower), Some(upper)) => facts.rules_fit(docket, leaf, raises) && lower > upper,
         _ => false,
     }
 }
 
-/// The upper sum, which a state joins once for each of its fixed agents, and once where it has none and is present;
-/// none if y1 + y2 is above 0 at a state not absent at the start, but for one that is no input and has fixed agents.
-fn upper_sum(docket: &Docket, facts: &Facts, leaf: &Leaf) -> Option<i64> {
-    let mut sum = 0;
-    for (i, both) in facts.start_weights(leaf) {
+/// The upper sum, which the start weight of a state joins once for each of its fixed agents, and once where it has none
+/// and is present; none if this weight is above 0 at a state not absent at the start, but for one that is no input and
+/// has fixed agents.
+fn upper_sum(docket: &Docket, facts: &Facts, leaf: &Weights) -> Option<i128> {
+    let mut sum = leaf.upper;
+    for (i, weight) in facts.start_weights(leaf) {
         let state = &docket.states[i];
-        if both > 0 && !state.only_fixed() {
+        if weight > 0 && !state.only_fixed() {
             return None;
         }
         let times = match state.fixed {
-            0 => i64::from(facts.present[0][i]),
-            fixed => fixed,
+            0 => i128::from(facts.present[0][i]),
+            fixed => i128::from(fixed),
         };
-        sum += times * both;
+        sum += times * weight;
     }
     Some(sum)
 }
 
 /// The lower sum; none if a weight is negative at a state that is neither absent nor at most one at that end.
-fn lower_sum(facts: &Facts, leaf: &Leaf) -> Option<i64> {
+fn lower_sum(facts: &Facts, leaf: &Weights) -> Option<i128> {
     let mut sum = 0;
     for (k, state, weight) in facts.end_weights(leaf) {
         if weight < 0 && !facts.at_most_one[k][state] {
@@ -157,23 +191,23 @@ fn lower_sum(facts: &Facts, leaf: &Leaf) -> Option<i64> {
 
 /// The remainder rule, modulo m: no rule not unused changes its run's weights, and the sum of the ends is not that of the
 /// start.
-fn remainder_closes(docket: &Docket, facts: &Facts, leaf: &Leaf, m: i64) -> bool {
-    let changes = |y: &[i64], rule: &Rule| !is_multiple(together(y, rule.after) - together(y, rule.before), m);
+fn remainder_closes(docket: &Docket, facts: &Facts, leaf: &Weights, m: i128) -> bool {
+    let changes = |y: &[i128], rule: &Rule| !is_multiple(together(y, rule.after) - together(y, rule.before), m);
     match (exactly_one_sum(facts, leaf, m), start_sum(docket, facts, leaf, m)) {
         (Some(ends), Some(start)) => facts.rules_fit(docket, leaf, changes) && !is_multiple(ends - start, m),
         _ => false,
     }
 }
 
-/// The sum of y1 + y2 over the agents of a start, modulo m. States that are no inputs and have fixed agents join it, once
-/// for each of these; none if y1 + y2 is no multiple of m at another state not absent at the start.
-fn start_sum(docket: &Docket, facts: &Facts, leaf: &Leaf, m: i64) -> Option<i64> {
+/// The sum of the start weights over the agents of a start, modulo m. States that are no inputs and have fixed agents
+/// join it, once for each of these; none if the weight is no multiple of m at another state not absent at the start.
+fn start_sum(docket: &Docket, facts: &Facts, leaf: &Weights, m: i128) -> Option<i128> {
     let mut sum = 0;
-    for (i, both) in facts.start_weights(leaf) {
+    for (i, weight) in facts.start_weights(leaf) {
         let state = &docket.states[i];
         if state.only_fixed() {
-            sum += state.fixed * both;
-        } else if !is_multiple(both, m) {
+            sum += i128::from(state.fixed) * weight;
+        } else if !is_multiple(weight, m) {
             return None;
         }
     }
@@ -182,7 +216,7 @@ fn start_sum(docket: &Docket, facts: &Facts, leaf: &Leaf, m: i64) -> Option<i64>
 
 /// The sum of the weights of the states that are not absent and hold exactly one worker at their end; none if the
 /// weight of another state that is not absent is no multiple of m.
-fn exactly_one_sum(facts: &Facts, leaf: &Leaf, m: i64) -> Option<i64> {
+fn exactly_one_sum(facts: &Facts, leaf: &Weights, m: i128) -> Option<i128> {
     let mut sum = 0;
     for (k, state, weight) in facts.end_weights(leaf) {
         if facts.present[k][state] && facts.at_most_one[k][state] {
@@ -194,8 +228,23 @@ fn exactly_one_sum(facts: &Facts, leaf: &Leaf, m: i64) -> Option<i64> {
     Some(sum)
 }
 
-fn is_multiple(number: i64, m: i64) -> bool {
+fn is_multiple(number: i128, m: i128) -> bool {
     number.rem_euclid(m) == 0
+}
+
+/// Weights as the leaf rule takes them.
+pub(crate) fn wide(weights: &[i64]) -> Vec<i128> {
+    weights.iter().copied().map(i128::from).collect()
+}
+
+impl Weights {
+    /// The weights of a docket's leaf: those of the start are y1 + y2.
+    fn of_leaf(leaf: &Leaf) -> Weights {
+        let (y1, y2) = (wide(&leaf.y1), wide(&leaf.y2));
+        let start = y1.iter().zip(&y2).map(|(y1, y2)| y1 + y2).collect();
+        let (ends, upper) = (vec![y1, y2], 0);
+        Weights { ends, start, upper }
+    }
 }
 
 impl Facts {
@@ -263,22 +312,23 @@ impl Facts {
     }
 
     /// Whether every rule that is bad for the weights of a run is unused in that run.
-    fn rules_fit(&self, docket: &Docket, leaf: &Leaf, bad: impl Fn(&[i64], &Rule) -> bool) -> bool {
-        self.all_unused(docket, 1, |rule| bad(&leaf.y1, rule)) && self.all_unused(docket, 2, |rule| bad(&leaf.y2, rule))
+    fn rules_fit(&self, docket: &Docket, leaf: &Weights, bad: impl Fn(&[i128], &Rule) -> bool) -> bool {
+        let mut runs = (1..).zip(&leaf.ends);
+        runs.all(|(run, y)| self.all_unused(docket, run, |rule| bad(y, rule)))
     }
 
-    /// The states not absent at the start, each with y1 + y2.
-    fn start_weights<'a>(&'a self, leaf: &'a Leaf) -> impl Iterator<Item = (usize, i64)> + 'a {
-        let both = leaf.y1.iter().zip(&leaf.y2).map(|(y1, y2)| y1 + y2);
-        both.enumerate().filter(|&(state, _)| !self.absent[0][state])
+    /// The states not absent at the start, each with its start weight.
+    fn start_weights<'a>(&'a self, leaf: &'a Weights) -> impl Iterator<Item = (usize, i128)> + 'a {
+        let weights = leaf.start.iter().copied().enumerate();
+        weights.filter(|&(state, _)| !self.absent[0][state])
     }
 
-    /// The states not absent at end 1 and those not absent at end 2: the end, the state and its weight there.
-    fn end_weights<'a>(&'a self, leaf: &'a Leaf) -> impl Iterator<Item = (usize, usize, i64)> + 'a {
-        let first = leaf.y1.iter().enumerate().map(|(state, &weight)| (1, state, weight));
-        let second = leaf.y2.iter().enumerate().map(|(state, &weight)| (2, state, weight));
-        let both = first.chain(second);
-        both.filter(|&(k, state, _)| !self.absent[k][state])
+    /// The states not absent at end 1, then those not absent at end 2: the end, the state and its weight there.
+    fn end_weights<'a>(&'a self, leaf: &'a Weights) -> impl Iterator<Item = (usize, usize, i128)> + 'a {
+        let of_end =
+            |(k, y): (usize, &'a Vec<i128>)| y.iter().enumerate().map(move |(state, &weight)| (k, state, weight));
+        let all = (1..).zip(&leaf.ends).flat_map(of_end);
+        all.filter(|&(k, state, _)| !self.absent[k][state])
     }
 }
 
@@ -286,6 +336,14 @@ impl Facts {
 mod tests {
     use super::*;
     use crate::docket::{check, line, samples::*};
+
+    fn leaf_closes(docket: &Docket, facts: &Facts, leaf: &Leaf) -> bool {
+        super::leaf_closes(docket, facts, &Weights::of_leaf(leaf))
+    }
+
+    fn remainder_closes(docket: &Docket, facts: &Facts, leaf: &Leaf, m: i128) -> bool {
+        super::remainder_closes(docket, facts, &Weights::of_leaf(leaf), m)
+    }
 
     /// Trees of the broadcast docket, and what the check says of them.
     fn trees(samples: &[(&str, &str)]) {
@@ -583,7 +641,7 @@ mod tests {
 
     /// Whether the remainder rule holds in a table whose one rule is 0 0 to 1 1, where only state 0 is an input, state 0
     /// is absent at end 1 and exactly one at end 2, and state 1 absent at both; after a change of these facts.
-    fn remainder(y1: [i64; 2], y2: [i64; 2], m: i64, change: impl FnOnce(&mut Facts)) -> bool {
+    fn remainder(y1: [i64; 2], y2: [i64; 2], m: i128, change: impl FnOnce(&mut Facts)) -> bool {
         let docket = docket("3 1", "0 0 1 1 0", "1 0", "1 1 0 0");
         let (y1, y2) = (y1.to_vec(), y2.to_vec());
         let mut facts = Facts::fresh(&docket);
@@ -624,7 +682,7 @@ mod tests {
         fixed: [i64; S],
         y1: [i64; S],
         y2: [i64; S],
-        m: i64,
+        m: i128,
         change: impl FnOnce(&mut Facts),
     ) -> bool {
         let states = ["2", &" 0".repeat(S - 1)].concat();

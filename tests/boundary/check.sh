@@ -1,6 +1,7 @@
 #!/usr/bin/env bash
 # Tests the C boundary on every docket of a folder: tests/corpus, or the one named. Each docket has its .expect file beside it.
-# writing.c, page.c and boundary.c run under AddressSanitizer, stack.c measures the stack, and the library may need memcpy and memset at most.
+# writing.c, page.c, boundary.c and sheet.c run under AddressSanitizer, stack.c measures the stack, and the library may need memcpy and memset at most.
+# sheet.c also takes the dockets of the examples, which have claim sheets beside them, and the cases of tests/corpus/claim.txt.
 set -euo pipefail
 corpus=$(realpath -- "${1-$(dirname "$0")/../corpus}")
 cd "$(dirname "$0")/../.."
@@ -40,9 +41,11 @@ passed=$((passed + 1))
 
 gcc "${strict[@]}" -O2 tests/boundary/stack.c "$library" -o "$work/stack"
 add "$work/stack" "$corpus"/*.docket
-for program in writing page boundary; do
+for program in writing page boundary sheet; do
+  more=()
+  if [[ $program == sheet ]]; then more=(examples/*.docket tests/corpus/claim.txt); fi
   gcc "${strict[@]}" -fsanitize=address,undefined -fno-sanitize-recover=all -g -O1 \
     "tests/boundary/$program.c" "$library" -o "$work/$program"
-  add "$work/$program" "$corpus"/*.docket
+  add "$work/$program" "$corpus"/*.docket "${more[@]}"
 done
 echo "$passed passed, 0 failed"

@@ -1,5 +1,5 @@
-/* What boundary.c, writing.c, page.c and stack.c share: the memory that calls are lent, docket files, the numbers of tests
-   1 to 8, rules exchanged, and refusals with their texts. */
+/* What boundary.c, writing.c, page.c, sheet.c and stack.c share: the memory that calls are lent, docket files, the numbers
+   of tests 1 to 8, rules exchanged, and refusals with their texts. */
 #ifndef SHARED_H
 #define SHARED_H
 
@@ -116,7 +116,7 @@ static inline size_t state_length(size_t version) { return version == 2 ? 3 : 1;
 /* Whether a refusal of this number is one of tests 1 to 8, to which 14 belongs. */
 static inline int is_of_tests_1_to_8(uint32_t number) { return (number >= 1 && number <= 8) || number == 14; }
 
-/* A refusal as every function but docket_check and docket_figures returns it. */
+/* A refusal as every function but docket_check, docket_check_sheet and docket_figures returns it. */
 static inline uint64_t refusal(uint64_t number, uint64_t place) { return (number << 32) + place; }
 
 /* Exchanges two rules that stand next to each other: at the first place, in the middle or at the last one, where which

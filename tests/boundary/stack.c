@@ -10,7 +10,14 @@
 
 #include <ucontext.h>
 
-enum { STACK = 1 << 20, PATTERN = 0xA5, MOST_BYTES = DOCKET_MAX_BYTES + 1, GROUPS = 300 };
+enum {
+    STACK = 1 << 20,
+    PATTERN = 0xA5,
+    MOST_BYTES = DOCKET_MAX_BYTES + 1,
+    GROUPS = 300,
+    DEPTH = 40,                              /* the greatest of a tree */
+    NODE = 12                                /* bytes of the record of a node */
+};
 
 static uint8_t stack[STACK];
 static uint8_t docket[MOST_BYTES];
@@ -49,6 +56,39 @@ static void call_page(void)
     docket_run_page(docket, docket_len, counts, GROUPS * states, 100, results, 2 * GROUPS);
 }
 
+/* Writes a node with no set and no argument, and returns where the next one stands. */
+static uint8_t *put_node(uint8_t *at, uint8_t kind, uint8_t party)
+{
+    memset(at, 0, NODE);
+    at[0] = kind;
+    at[1] = party;
+    return at + NODE;
+}
+
+/* Checks a claim sheet whose trees go down to a leaf at the greatest depth, in cases on state 0; the second begins where
+   the first is closed at once, as no state has verdict 0. What is said of it does not matter. */
+static void call_sheet(void)
+{
+    static uint8_t sheet[MOST_BYTES];
+    size_t states = docket_states(docket), nodes = 20 + 2 * states, leaves = nodes + NODE * (1 + DEPTH);
+    const size_t totals[2][2] = {{1, DEPTH}, {DEPTH, 1}};
+    for (size_t which = 0; which < 2; which++) {
+        const size_t header[8] = {states, totals[which][0], totals[which][1], 1, 16, nodes, leaves, leaves + 2 * states + 2};
+        memset(sheet, 0, header[7]);
+        for (size_t i = 0; i < 8; i++)
+            set16(sheet, 2 * i, header[i]);
+        uint8_t *at = sheet + nodes;
+        if (which == 0)
+            at = put_node(at, 1, 1);
+        for (size_t depth = 1; depth < DEPTH; depth++)
+            at = put_node(at, 4, 1);
+        at = put_node(at, 0, 0);
+        if (which == 1)
+            put_node(at, 1, 1);
+        docket_check_sheet(docket, docket_len, sheet, header[7]);
+    }
+}
+
 static size_t offset(size_t section) { return get16(docket, 12 + 2 * section); }
 
 static size_t length(size_t section) { return offset(section + 1) - offset(section); }
@@ -84,11 +124,13 @@ static size_t greater(size_t a, size_t b) { return a > b ? a : b; }
 
 int main(int argc, char **argv)
 {
-    size_t check = 0, machine = 0, page = 0, writer = 0;
+    size_t check = 0, sheet = 0, machine = 0, page = 0, writer = 0;
     for (int i = 1; i < argc; i++) {
         docket_len = read_bytes(argv[i], docket, sizeof docket);
         check = greater(check, used_by(call_check));
         uint32_t number = docket_check_number(docket_check(docket, docket_len));
+        if (number == 0)
+            sheet = greater(sheet, used_by(call_sheet));
         if (!is_of_tests_1_to_8(number)) {
             machine = greater(machine, used_by(call_machine));
             page = greater(page, used_by(call_page));
@@ -96,11 +138,11 @@ int main(int argc, char **argv)
         if (number == 0 || number > 4)
             writer = greater(writer, used_by(call_writer));
     }
-    printf("docket_check and docket_figures used %zu bytes of stack, docket_run_page %zu, the other calls of the machine "
-           "%zu, docket_write %zu\n",
-           check, page, machine, writer);
-    size_t most = greater(greater(check, page), greater(machine, writer));
-    int good = machine > 0 && page > 0 && writer > 0 && most <= DOCKET_STACK;
+    printf("docket_check and docket_figures used %zu bytes of stack, docket_check_sheet %zu, docket_run_page %zu, the "
+           "other calls of the machine %zu, docket_write %zu\n",
+           check, sheet, page, machine, writer);
+    size_t most = greater(greater(check, sheet), greater(page, greater(machine, writer)));
+    int good = sheet > 0 && machine > 0 && page > 0 && writer > 0 && most <= DOCKET_STACK;
     printf("%d passed, %d failed\n", good, !good);
     return good ? 0 : 1;
 }

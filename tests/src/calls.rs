@@ -106,6 +106,11 @@ pub fn check_code(docket: &[u8]) -> u64 {
     second::check(docket).map_or_else(refusal_code, |_| 0)
 }
 
+/// What the second implementation says of a claim sheet, as docket_check_sheet says it.
+pub fn check_sheet_code(docket: &[u8], sheet: &[u8]) -> u64 {
+    second::check_sheet(docket, sheet).map_or_else(refusal_code, |_| 0)
+}
+
 /// A refusal as docket_check returns it.
 pub fn refusal_code(refusal: Refusal) -> u64 {
     u64::from(refusal.number) * 65_536 + u64::from(refusal.place)

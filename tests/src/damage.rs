@@ -15,10 +15,10 @@ pub fn rewritten(docket: &Docket, random: &mut Random) -> Docket {
         other.version = 3 - docket.version;
     }
     if random.chance(2, 3) {
-        renumber_states(&mut other, random);
+        renumber_states(&mut other, &random_order(docket.states.len(), random));
     }
     if random.chance(2, 3) {
-        renumber_rules(&mut other, random);
+        reorder_rules(&mut other, &random_order(docket.rules.len(), random));
     }
     if random.chance(1, 2) {
         raise_weights(&mut other, random);
@@ -47,11 +47,16 @@ pub fn rewritten(docket: &Docket, random: &mut Random) -> Docket {
     other
 }
 
-fn renumber_states(docket: &mut Docket, random: &mut Random) {
+/// The numbers below one, in random order.
+pub(crate) fn random_order(count: usize, random: &mut Random) -> Vec<usize> {
+    let mut order: Vec<usize> = (0..count).collect();
+    random.shuffle(&mut order);
+    order
+}
+
+/// Gives each state the number that stands in its place.
+pub(crate) fn renumber_states(docket: &mut Docket, new: &[usize]) {
     let old = docket.clone();
-    let count = docket.states.len();
-    let mut new: Vec<usize> = (0..count).collect();
-    random.shuffle(&mut new);
     let sorted = |[a, b]: [usize; 2]| [new[a].min(new[b]), new[a].max(new[b])];
     for rule in &mut docket.rules {
         (rule.before, rule.after) = (sorted(rule.before), sorted(rule.after));
@@ -73,7 +78,7 @@ fn renumber_states(docket: &mut Docket, random: &mut Random) {
             docket.nodes[place].argument = new[was.argument];
         }
     }
-    swap_children(docket, &old, &new);
+    swap_children(docket, &old, new);
 }
 
 /// Where the numbers of p and q of a rule change their order, so do the two children of its nodes.
@@ -103,7 +108,8 @@ fn after_subtree(docket: &Docket, place: usize) -> usize {
     at
 }
 
-fn children(docket: &Docket, node: &Node) -> usize {
+/// How many children a node has.
+pub(crate) fn children(docket: &Docket, node: &Node) -> usize {
     match node.kind {
         3 => docket
             .rules
@@ -113,12 +119,6 @@ fn children(docket: &Docket, node: &Node) -> usize {
         5 | 6 => 1,
         _ => 0,
     }
-}
-
-fn renumber_rules(docket: &mut Docket, random: &mut Random) {
-    let mut order: Vec<usize> = (0..docket.rules.len()).collect();
-    random.shuffle(&mut order);
-    reorder_rules(docket, &order);
 }
 
 /// Multiplies a layer's weights and adds to them, up to the limit.
@@ -188,7 +188,7 @@ pub fn damaged(docket: &Docket, random: &mut Random) -> Vec<u8> {
     }
     let mut bytes = other.bytes();
     if raw {
-        damage_bytes(&mut bytes, random);
+        damage_bytes(&mut bytes, 12, random);
     }
     bytes
 }
@@ -399,7 +399,7 @@ fn damage_leaf(docket: &mut Docket, random: &mut Random) {
 }
 
 /// Drops, doubles, exchanges or adds nodes, or takes facts from a subtree.
-fn damage_tree(docket: &mut Docket, random: &mut Random) {
+pub(crate) fn damage_tree(docket: &mut Docket, random: &mut Random) {
     let count = docket.nodes.len();
     if count == 0 {
         return;
@@ -447,7 +447,7 @@ fn wrap(docket: &mut Docket, at: usize, random: &mut Random) {
     }
 }
 
-fn damage_node(docket: &mut Docket, random: &mut Random) {
+pub(crate) fn damage_node(docket: &mut Docket, random: &mut Random) {
     let count = docket.nodes.len();
     if count == 0 {
         return;
@@ -482,14 +482,14 @@ fn other_modulus(old: u64, random: &mut Random) -> u64 {
     }
 }
 
-/// Changes bytes with no regard to records; the header's length follows a new length in half of the cases.
-fn damage_bytes(bytes: &mut Vec<u8>, random: &mut Random) {
-    let len = bytes.len();
+/// Changes bytes with no regard to records. The header has so many numbers, of which the last, the length, follows a new
+/// length in half of the cases.
+pub(crate) fn damage_bytes(bytes: &mut Vec<u8>, numbers: usize, random: &mut Random) {
+    let (len, header) = (bytes.len(), 2 * numbers);
     match random.below(6) {
         0 => bytes.truncate(random.below(len)),
         1 => bytes.extend(std::iter::repeat_n(random.word() as u8, 1 + random.below(30))),
-        2 if len >= 24 => damage_header(bytes, random),
-        3 if len >= 24 => damage_header(bytes, random),
+        2 | 3 if len >= header => damage_header(bytes, numbers - 1, random),
         _ => {
             for _ in 0..1 + random.below(3) {
                 let at = random.below(len);
@@ -501,16 +501,19 @@ fn damage_bytes(bytes: &mut Vec<u8>, random: &mut Random) {
             }
         }
     }
-    if bytes.len() != len && bytes.len() >= 24 && random.chance(1, 2) {
+    if bytes.len() != len && bytes.len() >= header && random.chance(1, 2) {
         let total = (bytes.len() as u16).to_le_bytes();
-        bytes[22..24].copy_from_slice(&total);
+        bytes[header - 2..header].copy_from_slice(&total);
     }
 }
 
-fn damage_header(bytes: &mut [u8], random: &mut Random) {
-    let field = random.below(11);
+/// Changes one of the first numbers of a header.
+fn damage_header(bytes: &mut [u8], numbers: usize, random: &mut Random) {
+    let field = random.below(numbers);
     let old = u16::from_le_bytes([bytes[2 * field], bytes[2 * field + 1]]);
-    let edges = [0, 1, 2, 3, 16, 17, 64, 65, 128, 129, 256, 257, 258, 2048, 2049, 65_535];
+    let edges = [
+        0, 1, 2, 3, 16, 17, 64, 65, 128, 129, 256, 257, 258, 1024, 1025, 2048, 2049, 65_535,
+    ];
     let new = match random.below(3) {
         0 => old.wrapping_add(1),
         1 => old.wrapping_sub(1),

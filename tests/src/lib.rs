@@ -16,6 +16,7 @@ pub mod prover;
 pub mod random;
 pub mod remainders;
 pub mod samples;
+pub mod sheets;
 pub mod tally;
 pub mod totals;
 pub mod versions;

@@ -3,18 +3,20 @@
 //!
 //!     compare                  the gate's numbers of inputs, from a fixed seed
 //!     compare long SEED        twenty times as many, from another seed, and a start of more steps than 32 bits hold
+//!     compare examples         no comparison: writes the claim sheets of examples/ anew
 //!
 //! The last line is `N passed, 0 failed`; a difference is printed with the docket in hexadecimal and both answers.
 
 use second::{Docket, Refusal};
+use std::fmt::Display;
 use std::path::{Path, PathBuf};
-use tests::calls::{self, check_code, Call, Said};
+use tests::calls::{self, check_code, refusal_by_code, Call, Said};
 use tests::groups::random_counts;
 use tests::make::{fixed, remainder};
 use tests::random::Random;
 use tests::tally::Tally;
 use tests::{damage, fixed as fixed_agents, make, native, order, outcomes, pages, pairs, parts, program, prover};
-use tests::{remainders, samples, totals, versions, writing};
+use tests::{remainders, samples, sheets, totals, versions, writing};
 
 const THREADS: u64 = 2;
 const DOCKETS: u64 = 400_000;
@@ -23,10 +25,14 @@ const WRITES: u64 = 150_000;
 const GROUPS: u64 = 30_000;
 const PAGES: u64 = 20_000;
 const TOTALS: u64 = 3_000;
+const SHEETS: u64 = 20_000;
 const LINES: u64 = 4_000;
 
 /// One of so many dockets of version 1, and of lists of calls on them, is tried in version 2 too.
 const CONVERTED: u64 = 4;
+
+/// One of so many claim sheets is given to the program `decides` too.
+const DECIDED: u64 = 15;
 
 struct Results {
     passed: u64,
@@ -43,6 +49,13 @@ impl Results {
             }
         }
     }
+
+    /// Samples of one subject, with what is wrong with each.
+    fn expect_all<T: Display>(&mut self, subject: &str, samples: Vec<(T, Option<String>)>) {
+        for (name, problem) in samples {
+            self.expect(&format!("{subject}: {name}"), problem);
+        }
+    }
 }
 
 fn main() {
@@ -50,7 +63,8 @@ fn main() {
     let (times, seed) = match arguments.iter().map(String::as_str).collect::<Vec<_>>()[..] {
         [] => (1, 20_170_425),
         ["long", seed] => (20, seed.parse().expect("SEED is a number")),
-        _ => panic!("usage: compare [long SEED]"),
+        ["examples"] => return sheets::write_examples(),
+        _ => panic!("usage: compare [long SEED | examples]"),
     };
     let mut results = Results { passed: 0, failed: 0 };
     run_samples(&mut results);
@@ -62,6 +76,7 @@ fn main() {
     run_cases(&mut results, "writer", 36, writing::case_problem);
     run_cases(&mut results, "page", 18, pages::case_problem);
     run_cases(&mut results, "tally", 31, totals::case_problem);
+    run_cases(&mut results, "claim", 20, sheets::case_problem);
     let pool = Pool::new(seed, corpus);
     println!(
         "{} accepted dockets to begin with, of them {} of version 2 and {} large",
@@ -70,18 +85,19 @@ fn main() {
         pool.large.len()
     );
     results.expect("accepted dockets of version 1 in version 2", pool.version_problem());
-    let tally = compare_all(&pool, seed, times);
+    println!("{} accepted claim sheets to begin with", pool.claims.all().count());
+    let mut tally = compare_all(&pool, seed, times);
+    try_claims(&mut tally, &pool.claims);
     report(&tally);
-    results.expect("both implementations say the same", first_of(&tally.differences));
-    results.expect("the library keeps the laws of pairs", first_of(&tally.pairs.broken));
-    results.expect(
-        "the library runs a page as its groups one by one",
-        first_of(&tally.pages.broken),
-    );
-    results.expect(
-        "the program tally keeps the laws of totals",
-        first_of(&tally.totals.broken),
-    );
+    for (name, problems) in [
+        ("both implementations say the same", &tally.differences),
+        ("the library keeps the laws of pairs", &tally.pairs.broken),
+        ("the library runs a page as its groups one by one", &tally.pages.broken),
+        ("the program tally keeps the laws of totals", &tally.totals.broken),
+        ("the library keeps the laws of claim sheets", &tally.sheets.broken),
+    ] {
+        results.expect(name, first_of(problems));
+    }
     let missing = tally.not_reached();
     results.expect(
         "the inputs reach every test",
@@ -120,6 +136,7 @@ fn report(tally: &Tally) {
     report_pairs(tally);
     report_pages(tally);
     report_totals(tally);
+    report_sheets(tally);
     report_writes(tally);
 }
 
@@ -220,6 +237,30 @@ fn report_totals(tally: &Tally) {
     );
 }
 
+fn report_sheets(tally: &Tally) {
+    let sheets = &tally.sheets;
+    println!(
+        "claim sheets by version and refusal (0: accepted; of the docket behind test 8: 100 more): {:?}; of the docket, by bad sheet: {:?}",
+        sheets.said, sheets.dockets
+    );
+    println!(
+        "claim sheets: nodes by tree, refusal (0: accepted) and kind: {:?}; refusals 12 by tree and fault: {:?}",
+        sheets.nodes, sheets.faults
+    );
+    println!(
+        "claim sheets: refusals 15 by the only rule that is broken: {:?}",
+        sheets.rules
+    );
+    println!(
+        "claim sheets accepted by fixed agents counted and others: {:?}; by signs of limit and numbers: {:?}; leaves by tree and multiplier: {:?}; with counts at their limit: {:?}",
+        sheets.fixed, sheets.signs, sheets.multipliers, sheets.limits
+    );
+    println!(
+        "claims tried, by whether some starts come to 0 and some to 1: {:?}; lines of decides by refusal: {:?}",
+        sheets.tried, sheets.lines
+    );
+}
+
 /// How many problems there are, and the first five of them.
 fn first_of(problems: &[String]) -> Option<String> {
     let shown: Vec<String> = problems.iter().take(5).cloned().collect();
@@ -254,16 +295,12 @@ fn run_samples(results: &mut Results) {
         let problem = pairs::problem_at_limits(&native::say, &docket);
         results.expect(&format!("pairs at limits: {name}"), problem);
     }
-    for (name, problem) in pages::samples() {
-        results.expect(&format!("page: {name}"), problem);
-    }
-    for (name, problem) in writing::samples() {
-        results.expect(&format!("writer: {name}"), problem);
-    }
-    for (name, problem) in totals::samples() {
-        results.expect(&format!("totals: {name}"), problem);
-    }
-    for name in ["docket", "tally"] {
+    results.expect_all("page", pages::samples());
+    results.expect_all("writer", writing::samples());
+    results.expect_all("totals", totals::samples());
+    results.expect_all("sheet", sheets::samples());
+    results.expect_all("example", sheets::example_problems());
+    for name in ["docket", "tally", "decides"] {
         let problem = program::unreadable_problem(name);
         results.expect(&format!("{name}: standard input that cannot be read"), problem);
     }
@@ -347,10 +384,12 @@ fn run_cases(results: &mut Results, name: &str, number: usize, problem: fn(&str)
 
 // ---- Random inputs
 
-/// Accepted dockets. A large one is drawn seldom, since its check takes as long as that of a thousand small ones.
+/// Accepted dockets. A large one is drawn seldom, since its check takes as long as that of a thousand small ones. And
+/// accepted claim sheets.
 struct Pool {
     small: Vec<Docket>,
     large: Vec<Docket>,
+    claims: sheets::Pool,
 }
 
 impl Pool {
@@ -370,8 +409,9 @@ impl Pool {
                 .filter_map(|_| prover::random_fixed(&mut random))
                 .filter(|docket| docket.nodes.len() > 2),
         );
+        let claims = sheets::Pool::new(all.iter(), &mut random);
         let (large, small) = all.into_iter().partition(make::is_large);
-        Pool { small, large }
+        Pool { small, large, claims }
     }
 
     fn all(&self) -> impl Iterator<Item = &Docket> {
@@ -545,6 +585,9 @@ fn compare_some(pool: &Pool, mut random: Random, times: u64) -> Tally {
     for _ in 0..TOTALS * times {
         compare_totals(&mut tally, pool, &mut random);
     }
+    for i in 0..SHEETS * times {
+        compare_sheet(&mut tally, pool, &mut random, i % DECIDED == 0);
+    }
     tally
 }
 
@@ -694,6 +737,41 @@ fn compare_totals(tally: &mut Tally, pool: &Pool, random: &mut Random) {
         tally.break_totals(&input, format!("{line:?}: not so that {law}"));
     }
     tally.totals.count(&input, &said);
+}
+
+/// A claim sheet with its docket, beside the second implementation and by the laws of sheets, and now and then its line.
+fn compare_sheet(tally: &mut Tally, pool: &Pool, random: &mut Random, is_printed: bool) {
+    let (mut docket, sheet) = pool.claims.input(random);
+    if random.chance(1, 40) {
+        docket = pool.refused(random);
+    }
+    if let Some(difference) = sheets::difference(&docket, &sheet) {
+        tally.differ_sheet(&docket, &sheet, difference);
+    }
+    if let Some(law) = sheets::broken_law(sheets::NATIVE, &docket, &sheet, 2..=4) {
+        tally.break_sheet(&docket, &sheet, format!("not so that {law}"));
+    }
+    let said = refusal_by_code(native::check_sheet(&docket, &sheet));
+    let of_docket = refusal_by_code(native::check(&docket));
+    tally.sheets.count(&docket, &sheet, of_docket, said);
+    if !is_printed {
+        return;
+    }
+    if let Some(difference) = sheets::printed_difference(&docket, &sheet) {
+        tally.differ_sheet(&docket, &sheet, difference);
+    }
+    let number = said.map_or(0, |refusal| refusal.number);
+    *tally.sheets.lines.entry(number).or_default() += 1;
+}
+
+/// What the accepted claim sheets claim, beside all terminal configurations that small starts reach.
+fn try_claims(tally: &mut Tally, claims: &sheets::Pool) {
+    for claimed in claims.all() {
+        match sheets::tried(claimed) {
+            Ok(shown) => shown.iter().for_each(|shown| tally.sheets.count_tried(shown)),
+            Err(problem) => tally.break_sheet(&claimed.0.bytes(), &claimed.1.to_bytes(), problem),
+        }
+    }
 }
 
 /// Makes a call in version 2 too, which in version 1 says this and leaves these counts. Hands back whether it says and

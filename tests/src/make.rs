@@ -2,6 +2,7 @@
 
 pub mod fixed;
 pub mod remainder;
+pub mod sheet;
 
 use second::{Docket, Leaf, Node, Rule, State};
 
@@ -41,6 +42,15 @@ pub fn bits(number: u64) -> [bool; 64] {
 
 pub fn rule(before: [usize; 2], after: [usize; 2], layer: usize) -> Rule {
     Rule { before, after, layer }
+}
+
+/// The place of a leaf, which is added where it is new.
+pub fn place_of<T: PartialEq>(leaves: &mut Vec<T>, leaf: T) -> usize {
+    let known = leaves.iter().position(|other| *other == leaf);
+    known.unwrap_or_else(|| {
+        leaves.push(leaf);
+        leaves.len() - 1
+    })
 }
 
 /// Puts the rules in the order of version 2.
@@ -194,16 +204,23 @@ fn relay_argument(last: usize, n: usize) -> Vec<Node> {
     nodes
 }
 
-/// A tree of n nodes: cases on whether states are present, down to arguments of at most `most` nodes each. An argument
-/// is given its number of nodes and its place.
-fn split(n: usize, most: usize, place: usize, argument: &dyn Fn(usize, usize) -> Vec<Node>) -> Vec<Node> {
+/// An argument in so many nodes, which begin at a place.
+type Argument<'a> = &'a dyn Fn(usize, usize) -> Vec<Node>;
+
+/// A tree of n nodes: cases on whether states are present, down to arguments of at most `most` nodes each.
+fn split(n: usize, most: usize, place: usize, argument: Argument) -> Vec<Node> {
+    split_by(&|place| node(4, place % 3, 1), n, most, place, argument)
+}
+
+/// The same with other cases, each given by its place.
+fn split_by(case: &dyn Fn(usize) -> Node, n: usize, most: usize, place: usize, argument: Argument) -> Vec<Node> {
     if n <= most {
         return argument(n, place);
     }
     let half = (n - 1) / 2;
-    let mut nodes = vec![node(4, place % 3, 1)];
-    nodes.extend(split(half, most, place + 1, argument));
-    nodes.extend(split(n - 1 - half, most, place + 1 + half, argument));
+    let mut nodes = vec![case(place)];
+    nodes.extend(split_by(case, half, most, place + 1, argument));
+    nodes.extend(split_by(case, n - 1 - half, most, place + 1 + half, argument));
     nodes
 }
 

@@ -4,6 +4,7 @@ use crate::calls::{Call, Said, UNTOUCHED};
 
 extern "C" {
     fn docket_check(docket: *const u8, docket_len: usize) -> u64;
+    fn docket_check_sheet(docket: *const u8, docket_len: usize, sheet: *const u8, sheet_len: usize) -> u64;
     fn docket_start_test(docket: *const u8, docket_len: usize, counts: *const u32, counts_len: usize) -> u64;
     fn docket_can_act(
         docket: *const u8,
@@ -69,6 +70,12 @@ extern "C" {
 pub fn check(docket: &[u8]) -> u64 {
     // SAFETY: the pointer and the length are those of one slice, which the library only reads.
     unsafe { docket_check(docket.as_ptr(), docket.len()) }
+}
+
+/// What docket_check_sheet returns, as docket_check does.
+pub fn check_sheet(docket: &[u8], sheet: &[u8]) -> u64 {
+    // SAFETY: each pointer and length are those of one slice, which the library only reads.
+    unsafe { docket_check_sheet(docket.as_ptr(), docket.len(), sheet.as_ptr(), sheet.len()) }
 }
 
 /// What docket_figures returns, and what it leaves behind its pointer.

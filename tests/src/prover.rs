@@ -1,10 +1,15 @@
 //! Random small protocols with certificates, with and without fixed agents: weights come first and rules are chosen to
 //! lower them; a tree of arguments is searched for by traps, siphons, leaves with weights -1 to 1, remainders with small
-//! moduli, and cases.
+//! moduli, and cases. The trees of claim sheets are searched for in the same way.
 
-use crate::make::{self, node, remainder, remainder_node, rule, sort_rules};
+mod sheets;
+
+pub use sheets::{prove_sheet, random_sheet};
+
+use crate::make::{self, bits, node, place_of, remainder, remainder_node, rule, sort_rules};
 use crate::random::Random;
 use second::{Docket, Leaf, Node, State};
+use sheets::{Half, MULTIPLIERS};
 
 /// The most nodes that a search may use, and the most states for which leaves are tried.
 const MOST_NODES: usize = 300;
@@ -15,11 +20,53 @@ const MODULI: [i64; 3] = [2, 3, 4];
 
 /// Sets of states as words; of rules too, so there are at most 64 of them.
 #[derive(Clone, Copy, Default)]
-struct Facts {
-    absent: [u64; 3],
-    present: [u64; 3],
-    at_most_one: [u64; 3],
-    unused: [u64; 3],
+pub(crate) struct Facts {
+    pub absent: [u64; 3],
+    pub present: [u64; 3],
+    pub at_most_one: [u64; 3],
+    pub unused: [u64; 3],
+}
+
+impl Facts {
+    pub fn fresh(docket: &Docket) -> Facts {
+        let mut facts = Facts::default();
+        facts.absent[0] = states_where(docket, |state| !state.input && state.fixed == 0);
+        facts.present[0] = states_where(docket, |state| state.fixed > 0);
+        facts
+    }
+
+    /// The facts of each child of a node.
+    pub fn children(&self, docket: &Docket, node: &Node) -> Vec<Facts> {
+        let (party, argument) = (node.party, node.argument);
+        let grown = |grow: &dyn Fn(&mut Facts)| {
+            let mut facts = *self;
+            grow(&mut facts);
+            facts
+        };
+        let absent = |state: usize| grown(&|facts| facts.absent[party] |= 1 << state);
+        match node.kind {
+            3 => match docket.rules[argument].before {
+                [p, q] if p == q => vec![grown(&|facts| facts.at_most_one[party] |= 1 << p)],
+                [p, q] => vec![absent(p), absent(q)],
+            },
+            4 => vec![absent(argument), grown(&|facts| facts.present[party] |= 1 << argument)],
+            5 => vec![self.with_set_absent(docket, node, 0)],
+            6 => vec![self.with_set_absent(docket, node, party)],
+            _ => vec![],
+        }
+    }
+
+    /// The set of a node is absent at a party, and the rules touching it are unused in its run.
+    fn with_set_absent(&self, docket: &Docket, node: &Node, party: usize) -> Facts {
+        let mut facts = *self;
+        let set = node.modulus();
+        facts.absent[party] |= set;
+        for (r, rule) in docket.rules.iter().enumerate() {
+            let touched = (pair_set(rule.before) | pair_set(rule.after)) & set != 0;
+            facts.unused[node.party] |= u64::from(touched) << r;
+        }
+        facts
+    }
 }
 
 /// An accepted docket of a random protocol; none where this try fails.
@@ -137,28 +184,32 @@ fn add_rule(docket: &mut Docket, random: &mut Random) {
 pub fn prove(mut docket: Docket, random: &mut Random) -> Option<Docket> {
     docket.nodes.clear();
     docket.leaves.clear();
-    let mut facts = Facts::default();
-    facts.absent[0] = states_where(&docket, |state| !state.input && state.fixed == 0);
-    facts.present[0] = states_where(&docket, |state| state.fixed > 0);
-    let mut search = Search { docket, random };
+    let facts = Facts::fresh(&docket);
+    let mut search = Search {
+        docket,
+        random,
+        half: None,
+    };
     search.close(facts, 1)?;
     second::check(&search.docket.bytes()).is_ok().then_some(search.docket)
 }
 
-fn states_where(docket: &Docket, test: impl Fn(&State) -> bool) -> u64 {
+pub(crate) fn states_where(docket: &Docket, test: impl Fn(&State) -> bool) -> u64 {
     let states = docket.states.iter().enumerate();
     states
         .filter(|(_, state)| test(state))
         .fold(0, |set, (i, _)| set | 1 << i)
 }
 
-fn pair_set(pair: [usize; 2]) -> u64 {
+pub(crate) fn pair_set(pair: [usize; 2]) -> u64 {
     1 << pair[0] | 1 << pair[1]
 }
 
 struct Search<'a> {
     docket: Docket,
     random: &'a mut Random,
+    /// What a tree of a claim sheet is about; none for a docket's tree, which is about two runs.
+    half: Option<Half>,
 }
 
 /// The weights for one end, and their part of a sum over both.
@@ -185,19 +236,28 @@ impl Search<'_> {
             self.docket.nodes.push(node);
             return Some(());
         }
-        if let Some((node, child)) = (1..5).find_map(|i| self.set_argument(&facts, 5 + i as u8 % 2, 1 + i / 3)) {
+        let mut sets = (1..1 + 2 * self.runs()).map(|i| (5 + i as u8 % 2, 1 + i / 3));
+        if let Some((node, child)) = sets.find_map(|(kind, party)| self.set_argument(&facts, kind, party)) {
             self.docket.nodes.push(node);
             return self.close(child, depth + 1);
         }
-        if let Some((leaf, modulus)) = self.any_leaf(&facts) {
-            let at = self.leaf_place(leaf);
-            let closed = modulus.map_or(node(0, 0, at), |m| remainder_node(at, m as u64));
-            self.docket.nodes.push(closed);
+        if let Some(node) = self.leaf_node(&facts) {
+            self.docket.nodes.push(node);
             return Some(());
         }
         let (node, children) = self.cases(&facts)?;
         self.docket.nodes.push(node);
         children.into_iter().try_for_each(|child| self.close(child, depth + 1))
+    }
+
+    fn runs(&self) -> usize {
+        self.half.as_ref().map_or(2, |_| 1)
+    }
+
+    /// The states of the output that is assumed for an end.
+    fn assumed(&self, party: usize) -> u64 {
+        let output = self.half.as_ref().map_or(party as u8 - 1, |half| half.output);
+        states_where(&self.docket, |state| state.verdict == output)
     }
 
     fn contradiction(&self, facts: &Facts) -> Option<Node> {
@@ -207,8 +267,8 @@ impl Search<'_> {
     }
 
     fn outputs_absent(&self, facts: &Facts) -> Option<Node> {
-        let assumed = |party: usize| states_where(&self.docket, |state| usize::from(state.verdict) + 1 == party);
-        let party = (1..3).find(|&party| assumed(party) & !facts.absent[party] == 0)?;
+        let mut runs = 1..=self.runs();
+        let party = runs.find(|&party| self.assumed(party) & !facts.absent[party] == 0)?;
         Some(node(1, party, 0))
     }
 
@@ -225,40 +285,33 @@ impl Search<'_> {
                 }
             }
         }
-        let mut child = *facts;
-        child.absent[to] |= set;
-        for (r, rule) in self.docket.rules.iter().enumerate() {
-            let touched = (pair_set(rule.before) | pair_set(rule.after)) & set != 0;
-            child.unused[party] |= u64::from(touched) << r;
-        }
+        let node = Node {
+            set: bits(set),
+            ..node(kind, party, 0)
+        };
+        let child = facts.with_set_absent(&self.docket, &node, to);
         let new = child.absent[to] != facts.absent[to] || child.unused[party] != facts.unused[party];
-        let named = std::array::from_fn(|i| set >> i & 1 == 1);
-        new.then_some((
-            Node {
-                kind,
-                party,
-                argument: 0,
-                set: named,
-            },
-            child,
-        ))
+        new.then_some((node, child))
     }
 
-    /// The place of a leaf, which is added where it is new.
-    fn leaf_place(&mut self, leaf: Leaf) -> usize {
-        let known = self.docket.leaves.iter().position(|l| *l == leaf);
-        let at = known.unwrap_or(self.docket.leaves.len());
-        if known.is_none() {
-            self.docket.leaves.push(leaf);
+    /// A node that is closed by a leaf, which is added where it is new.
+    fn leaf_node(&mut self, facts: &Facts) -> Option<Node> {
+        if self.docket.states.len() > MOST_LEAF_STATES {
+            return None;
         }
-        at
+        if self.half.is_some() {
+            let mut multipliers = MULTIPLIERS;
+            self.random.shuffle(&mut multipliers);
+            let leaf = self.sheet_leaf(facts, &multipliers)?;
+            return Some(node(0, 0, place_of(&mut self.half.as_mut()?.leaves, leaf)));
+        }
+        let (leaf, modulus) = self.any_leaf(facts)?;
+        let at = place_of(&mut self.docket.leaves, leaf);
+        Some(modulus.map_or(node(0, 0, at), |m| remainder_node(at, m as u64)))
     }
 
     /// A leaf that closes by the leaf rule, or one that closes by the remainder rule, with its modulus.
     fn any_leaf(&mut self, facts: &Facts) -> Option<(Leaf, Option<i64>)> {
-        if self.docket.states.len() > MOST_LEAF_STATES {
-            return None;
-        }
         let m = *self.random.pick(&MODULI);
         let remainder = |search: &Self| search.remainder(facts, m).map(|leaf| (leaf, Some(m)));
         let leaf = |search: &Self| search.leaf(facts).map(|leaf| (leaf, None));
@@ -271,9 +324,10 @@ impl Search<'_> {
 
     /// A leaf with weights -1 to 1 that closes by the leaf rule.
     fn leaf(&self, facts: &Facts) -> Option<Leaf> {
-        let sides = [1, 2].map(|party| self.leaf_sides(facts, party));
+        let sides = [1, 2].map(|party| self.leaf_sides(facts, party, 3));
         first_leaf(&sides, |y1, y2, lower| {
-            self.upper_sum(facts, y1, y2).is_some_and(|upper| lower > upper)
+            let upper = self.upper_sum(facts, |i| y1[i] + y2[i]);
+            upper.is_some_and(|upper| lower > upper)
         })
     }
 
@@ -301,11 +355,12 @@ impl Search<'_> {
         fit.then(|| fixed.iter().map(|(state, both)| state.fixed * both).sum())
     }
 
-    /// The weights for one end that the rules and the end allow, with their part of the lower sum.
-    fn leaf_sides(&self, facts: &Facts, party: usize) -> Vec<Side> {
+    /// The weights for one end, `range` numbers around 0 for each state, that the rules and the end allow, with their part
+    /// of the lower sum.
+    fn leaf_sides(&self, facts: &Facts, party: usize, range: i64) -> Vec<Side> {
         let is_at = |set: u64, i: usize| set >> i & 1 == 1;
         let mut sides = vec![];
-        for y in self.kept(facts, party, 3, |raised| raised <= 0) {
+        for y in self.kept(facts, party, range, |raised| raised <= 0) {
             let fits = |i: usize| y[i] >= 0 || is_at(facts.at_most_one[party], i);
             if self.not_absent(facts, party).all(fits) {
                 let joins = |i: &usize| y[*i] < 0 || is_at(facts.present[party], *i);
@@ -348,14 +403,15 @@ impl Search<'_> {
         all.filter(is_kept).collect()
     }
 
-    fn upper_sum(&self, facts: &Facts, y1: &[i64], y2: &[i64]) -> Option<i64> {
+    /// The sum over a start of these weights, at most; none where one is above 0 and its state may have any number.
+    fn upper_sum(&self, facts: &Facts, weight: impl Fn(usize) -> i64) -> Option<i64> {
         let mut sum = 0;
         for i in self.not_absent(facts, 0) {
-            let (state, both) = (&self.docket.states[i], y1[i] + y2[i]);
-            if both > 0 && !state.only_fixed() {
+            let (state, weight) = (&self.docket.states[i], weight(i));
+            if weight > 0 && !state.only_fixed() {
                 return None;
             }
-            sum += both * state.fixed.max((facts.present[0] >> i & 1) as i64);
+            sum += weight * state.fixed.max((facts.present[0] >> i & 1) as i64);
         }
         Some(sum)
     }
@@ -363,12 +419,12 @@ impl Search<'_> {
     /// A random case that is still open: a rule not enabled at an end, or a state absent or present.
     fn cases(&mut self, facts: &Facts) -> Option<(Node, Vec<Facts>)> {
         let mut open = vec![];
-        for party in 0..3 {
+        for party in 0..=self.runs() {
             let decided = facts.absent[party] | facts.present[party];
             let states = 0..self.docket.states.len();
             open.extend(states.filter(|i| decided >> i & 1 == 0).map(|i| node(4, party, i)));
         }
-        for party in 1..3 {
+        for party in 1..=self.runs() {
             let known = facts.absent[party] | facts.at_most_one[party];
             for (r, rule) in self.docket.rules.iter().enumerate() {
                 let [p, q] = rule.before;
@@ -382,26 +438,7 @@ impl Search<'_> {
             return None;
         }
         let chosen = *self.random.pick(&open);
-        Some((chosen, self.children(facts, &chosen)))
-    }
-
-    fn children(&self, facts: &Facts, node: &Node) -> Vec<Facts> {
-        let absent = |i: usize| {
-            let mut child = *facts;
-            child.absent[node.party] |= 1 << i;
-            child
-        };
-        let mut other = *facts;
-        if node.kind == 4 {
-            other.present[node.party] |= 1 << node.argument;
-            return vec![absent(node.argument), other];
-        }
-        let [p, q] = self.docket.rules[node.argument].before;
-        if p == q {
-            other.at_most_one[node.party] |= 1 << p;
-            return vec![other];
-        }
-        vec![absent(p), absent(q)]
+        Some((chosen, facts.children(&self.docket, &chosen)))
     }
 }
 

@@ -117,15 +117,20 @@ pub fn closed_by(last: Node, facts: &str, y1: Vec<i64>, y2: Vec<i64>) -> Docket 
         input,
         fixed: 0,
     };
-    let words = facts.split_whitespace().rev();
     Docket {
         version: 1,
         states: vec![state(true), state(true), state(false), state(false)],
         rules: rules(),
         weights: vec![vec![2, 2, 0, 1]],
-        nodes: words.fold(vec![last], |nodes, word| with_fact(word, nodes)),
+        nodes: with_facts(facts, last, node(1, 1, 0)),
         leaves: vec![Leaf { y1, y2 }],
     }
+}
+
+/// The tree that has one node where the facts hold, and the other elsewhere.
+pub fn with_facts(facts: &str, last: Node, other: Node) -> Vec<Node> {
+    let words = facts.split_whitespace().rev();
+    words.fold(vec![last], |nodes, word| with_fact(word, nodes, other))
 }
 
 fn rules() -> Vec<Rule> {
@@ -142,13 +147,12 @@ fn own_rule(state: usize) -> usize {
     rules().iter().position(own).expect("a rule for this state")
 }
 
-/// The tree that has these nodes where a fact holds.
-fn with_fact(word: &str, nodes: Vec<Node>) -> Vec<Node> {
+/// The tree that has these nodes where a fact holds, and the other node where it does not.
+fn with_fact(word: &str, nodes: Vec<Node>, other: Node) -> Vec<Node> {
     let [letter, party, mark] = word.as_bytes() else {
         panic!("{word} is no fact");
     };
     let (state, party) = (usize::from(letter - b'A'), usize::from(party - b'0'));
-    let other = node(1, 1, 0);
     let (before, after) = match mark {
         b'-' => (vec![node(4, party, state)], vec![other]),
         b'+' => (vec![node(4, party, state), other], vec![]),

@@ -4,6 +4,7 @@ mod fixed;
 mod order;
 mod pages;
 mod pairs;
+mod sheets;
 mod totals;
 mod writes;
 
@@ -13,6 +14,7 @@ use order::Order;
 pub use pages::Pages;
 pub use pairs::Pairs;
 use second::Refusal;
+use sheets::Sheets;
 use std::collections::{BTreeMap, BTreeSet};
 use std::fmt::Debug;
 use totals::Totals;
@@ -46,6 +48,7 @@ pub struct Tally {
     pub order: Order,
     pub pairs: Pairs,
     pub pages: Pages,
+    pub sheets: Sheets,
     pub totals: Totals,
     pub writes: Writes,
     /// What was said to the inputs on which the two implementations differ.
@@ -126,6 +129,14 @@ impl Tally {
         self.totals.broken.push(format!("input {}\n  {what}", hex(input)));
     }
 
+    pub fn break_sheet(&mut self, docket: &[u8], sheet: &[u8], what: String) {
+        self.sheets.broken.push(of_sheet(docket, sheet, &what));
+    }
+
+    pub fn differ_sheet(&mut self, docket: &[u8], sheet: &[u8], what: String) {
+        self.differences.push(of_sheet(docket, sheet, &what));
+    }
+
     pub fn merge(&mut self, other: Tally) {
         self.dockets += other.dockets;
         self.pass_shape += other.pass_shape;
@@ -147,6 +158,7 @@ impl Tally {
         self.order.merge(other.order);
         self.pairs.merge(other.pairs);
         self.pages.merge(other.pages);
+        self.sheets.merge(other.sheets);
         self.totals.merge(other.totals);
         self.writes.merge(other.writes);
         self.differences.extend(other.differences);
@@ -154,7 +166,8 @@ impl Tally {
 
     /// What the inputs failed to reach: several places with every refusal that has them, some last places, every kind of
     /// node and some moduli, half of the dockets past tests 1 to 8, a tenth of them accepted, tables in which a pair has
-    /// several rules, version 2, rules out of order, numbers of pairs, pages, totals, and what the writer can say.
+    /// several rules, version 2, rules out of order, numbers of pairs, pages, claim sheets, totals, and what the writer
+    /// can say.
     pub fn not_reached(&self) -> Vec<String> {
         let mut missing = places_not_reached(&self.places, &LEAST_PLACES, &LAST_PLACES);
         if 2 * self.pass_shape < self.dockets {
@@ -169,6 +182,7 @@ impl Tally {
         missing.extend(self.order.not_reached());
         missing.extend(self.pairs.not_reached());
         missing.extend(self.pages.not_reached());
+        missing.extend(self.sheets.not_reached());
         missing.extend(self.totals.not_reached());
         missing.extend(self.writes.not_reached());
         missing
@@ -246,6 +260,11 @@ fn places_not_reached(places: &Places, least: &[(u32, usize)], last: &[(u32, u32
 /// What is said of a docket, with its bytes.
 fn of_docket(docket: &[u8], what: &str) -> String {
     format!("docket {}\n  {what}", hex(docket))
+}
+
+/// What is said of a claim sheet, with its bytes and those of its docket.
+fn of_sheet(docket: &[u8], sheet: &[u8], what: &str) -> String {
+    format!("docket {}\nsheet {}\n  {what}", hex(docket), hex(sheet))
 }
 
 /// Bytes as two digits each.

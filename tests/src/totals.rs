@@ -164,7 +164,7 @@ fn named(text: &str) -> Vec<u8> {
 }
 
 /// Standard input with so many agents.
-fn with_agents(agents: u8, docket: &[u8]) -> Vec<u8> {
+pub fn with_agents(agents: u8, docket: &[u8]) -> Vec<u8> {
     [&[agents], docket].concat()
 }
 
@@ -180,14 +180,20 @@ fn all_samples() -> Vec<Sample> {
         };
         (name.to_string(), input, line)
     };
-    let refused = |text: &'static str| {
-        let [name, docket, line] = row(text);
-        let docket = named(docket);
+    let refused = refused_dockets().into_iter().flat_map(|(name, docket, line)| {
         AGENTS.map(|agents| (format!("{name}, n = {agents}"), with_agents(agents, &docket), line))
-    };
-    let refused = REFUSED.lines().flat_map(refused);
+    });
     let rows = SAMPLES.lines().map(sample).chain(refused);
     rows.chain(LARGE.lines().map(sample)).collect()
+}
+
+/// Dockets that the check refuses, with their names and the line.
+pub fn refused_dockets() -> Vec<(&'static str, Vec<u8>, &'static str)> {
+    let refused = |text: &'static str| {
+        let [name, docket, line] = row(text);
+        (name, named(docket), line)
+    };
+    REFUSED.lines().map(refused).collect()
 }
 
 /// Dockets that take long with so many agents or with their fixed ones.
@@ -332,7 +338,7 @@ pub fn said_by(check: fn(&[u8]) -> u64, say: Say, input: &[u8]) -> Result<Vec<Ru
 }
 
 /// The starts in order: one agent after the other joins the fixed ones, in each of the inputs.
-fn starts(docket: &Docket, agents: u8) -> Vec<Vec<u32>> {
+pub fn starts(docket: &Docket, agents: u8) -> Vec<Vec<u32>> {
     let inputs: Vec<usize> = (0..docket.states.len()).filter(|&i| docket.states[i].input).collect();
     let mut all: BTreeSet<Vec<u32>> = [docket.states.iter().map(|state| state.fixed as u32).collect()].into();
     for _ in 0..agents {

@@ -1,11 +1,12 @@
-//! The check, the machine, the writer and the sheet of totals by the same methods as the proved implementation, written
-//! in Rust with the same care for speed: the file is read in place, sets of states and of rules are words of 64 bits,
-//! facts are a plain struct that is copied to each child, every search stops at its first find, and nothing is
-//! allocated but the start that a sheet shows.
+//! The check, the machine, the writer, the check of claim sheets and the sheet of totals by the same methods as the proved
+//! implementation, written in Rust with the same care for speed: the file is read in place, sets of states and of rules
+//! are words of 64 bits, facts are a plain struct that is copied to each child, every search stops at its first find, and
+//! nothing is allocated but the start that a sheet of totals shows.
 
 mod docket;
 mod ladder;
 mod machine;
+mod sheet;
 mod totals;
 mod tree;
 mod writer;
@@ -28,25 +29,30 @@ fn refuse<T>(number: u32, place: usize) -> Result<T, Refusal> {
     })
 }
 
-/// Tests 1 to 14, and the figures W and M as the proved check computes them too.
-fn check(docket: &[u8]) -> Result<(u64, u32), Refusal> {
+/// Tests 1 to 14, and the figures W and M as the proved check computes them too; hands back the docket.
+fn check(docket: &[u8]) -> Result<Docket<'_>, Refusal> {
     let docket = Docket::read(docket)?;
     ladder::lowering(&docket)?;
     ladder::handover(&docket)?;
     tree::leaf_limits(&docket)?;
     tree::check(&docket)?;
-    Ok((ladder::spread_sum(&docket), tree::widest(&docket)))
+    std::hint::black_box((ladder::spread_sum(&docket), tree::widest(&docket)));
+    Ok(docket)
 }
 
 /// What `docket_check` returns.
 pub fn check_code(docket: &[u8]) -> u64 {
-    match check(docket) {
-        Ok(figures) => {
-            std::hint::black_box(figures);
-            0
-        }
-        Err(refusal) => u64::from(refusal.number) * 65_536 + u64::from(refusal.place),
-    }
+    check(docket).map_or_else(refusal_code, |_| 0)
+}
+
+/// What `docket_check_sheet` returns.
+pub fn check_sheet_code(docket: &[u8], sheet: &[u8]) -> u64 {
+    let said = check(docket).and_then(|docket| sheet::check(&docket, sheet));
+    said.map_or_else(refusal_code, |()| 0)
+}
+
+fn refusal_code(refusal: Refusal) -> u64 {
+    u64::from(refusal.number) * 65_536 + u64::from(refusal.place)
 }
 
 /// What `docket_start_test` returns.
@@ -94,6 +100,5 @@ pub fn run_page_code(docket: &[u8], counts: &mut [u32], limit: u32, results: &mu
 /// What the program `tally` says of its input: one byte n, 0 if there is none, and the docket behind it.
 pub fn tally(input: &[u8]) -> Result<Totals, Refusal> {
     let (&agents, docket) = input.split_first().unwrap_or((&0, &[]));
-    check(docket)?;
-    totals::totals(&Docket::read(docket)?, agents)
+    totals::totals(&check(docket)?, agents)
 }

@@ -1,4 +1,5 @@
-//! Tests 11 to 13: leaf weights and the tree.
+//! Tests 11 to 13: leaf weights and the tree. The walk is given what a tree assumes, so that it is that of claim sheets
+//! too.
 
 use super::docket::{Docket, Rule};
 use super::{refuse, Refusal};
@@ -7,10 +8,14 @@ use std::ops::RangeInclusive;
 const DEPTH: usize = 40;
 const MODULI: RangeInclusive<u64> = 2..=1000;
 
+/// Whether a weight of a leaf is outside its limits.
+pub fn is_outside(weight: &[u8; 2]) -> bool {
+    !(-10_000..=10_000).contains(&i16::from_le_bytes(*weight))
+}
+
 /// Test 11.
 pub fn leaf_limits(docket: &Docket) -> Result<(), Refusal> {
-    let outside = |weight: &[u8; 2]| !(-10_000..=10_000).contains(&i16::from_le_bytes(*weight));
-    match docket.leaf_weights.iter().position(outside) {
+    match docket.leaf_weights.iter().position(is_outside) {
         Some(at) => refuse(11, at / (2 * docket.states.len())),
         None => Ok(()),
     }
@@ -60,15 +65,27 @@ impl Node {
     }
 }
 
-/// The weights of a leaf for end 1 and for end 2.
-struct Leaf<'a> {
-    ends: [&'a [[u8; 2]]; 2],
+/// What a tree assumes: runs from one start, each to an end with a state of an assumed output; and the leaves.
+pub trait Assumed {
+    /// Two runs have nodes of kind 7.
+    const RUNS: usize;
+    type Leaf<'a>: Weights
+    where
+        Self: 'a;
+    /// The states of the output that is assumed at the end of a run.
+    fn output(&self, run: usize) -> u64;
+    fn leaves(&self) -> usize;
+    fn leaf(&self, leaf: usize) -> Self::Leaf<'_>;
 }
 
-impl Leaf<'_> {
-    fn y(&self, end: usize, state: usize) -> i32 {
-        i32::from(i16::from_le_bytes(self.ends[end - 1][state]))
-    }
+/// A leaf as the leaf rule takes it.
+pub trait Weights {
+    /// The weight of a state at an end.
+    fn y(&self, end: usize, state: usize) -> i32;
+    /// The weight of a state at the start.
+    fn start(&self, state: usize) -> i64;
+    /// What the upper sum begins with.
+    fn upper(&self) -> i64;
 
     /// What a rule adds to the weights of its run.
     fn added(&self, run: usize, &[p, q, a, b, _]: &Rule) -> i32 {
@@ -77,24 +94,91 @@ impl Leaf<'_> {
     }
 }
 
-struct Tree<'a> {
+/// Two runs of a docket, to an end with verdict 0 and to an end with verdict 1.
+struct TwoRuns<'a> {
     docket: &'a Docket<'a>,
-    states: u64,
     /// The states of verdict 0, and those of verdict 1.
     verdicts: [u64; 2],
+}
+
+/// The weights of a leaf for end 1 and for end 2.
+struct TwoEnds<'a>([&'a [[u8; 2]]; 2]);
+
+impl Assumed for TwoRuns<'_> {
+    const RUNS: usize = 2;
+    type Leaf<'a>
+        = TwoEnds<'a>
+    where
+        Self: 'a;
+
+    fn output(&self, run: usize) -> u64 {
+        self.verdicts[run - 1]
+    }
+
+    fn leaves(&self) -> usize {
+        self.docket.leaf_weights.len() / (2 * self.docket.states.len())
+    }
+
+    fn leaf(&self, leaf: usize) -> TwoEnds<'_> {
+        let states = self.docket.states.len();
+        let weights = &self.docket.leaf_weights[2 * leaf * states..][..2 * states];
+        let (first, second) = weights.split_at(states);
+        TwoEnds([first, second])
+    }
+}
+
+impl Weights for TwoEnds<'_> {
+    fn y(&self, end: usize, state: usize) -> i32 {
+        i32::from(i16::from_le_bytes(self.0[end - 1][state]))
+    }
+
+    fn start(&self, state: usize) -> i64 {
+        i64::from(self.y(1, state) + self.y(2, state))
+    }
+
+    fn upper(&self) -> i64 {
+        0
+    }
+}
+
+/// The states with this verdict, 0 or 1.
+pub fn states_of(docket: &Docket, verdict: u8) -> u64 {
+    let (states, ones) = (all_states(docket), docket.states.with(1));
+    if verdict == 1 {
+        ones
+    } else {
+        states & !ones
+    }
+}
+
+fn all_states(docket: &Docket) -> u64 {
+    u64::MAX >> (64 - docket.states.len())
+}
+
+/// Tests 12 and 13 on the tree of a docket.
+pub fn check(docket: &Docket) -> Result<(), Refusal> {
+    let verdicts = [states_of(docket, 0), states_of(docket, 1)];
+    walk(docket, docket.nodes, &TwoRuns { docket, verdicts })
+}
+
+struct Tree<'a, A> {
+    docket: &'a Docket<'a>,
+    nodes: &'a [[u8; 12]],
+    assumed: &'a A,
+    states: u64,
     /// The states with fixed agents, and those of them that are no inputs.
     fixed: u64,
     only_fixed: u64,
 }
 
 /// Tests 12 and 13.
-pub fn check(docket: &Docket) -> Result<(), Refusal> {
-    let states = u64::MAX >> (64 - docket.states.len());
-    let (ones, inputs, fixed) = (docket.states.with(1), docket.states.with(2), docket.states.with_fixed());
+pub fn walk<A: Assumed>(docket: &Docket, nodes: &[[u8; 12]], assumed: &A) -> Result<(), Refusal> {
+    let (states, inputs, fixed) = (all_states(docket), docket.states.with(2), docket.states.with_fixed());
     let tree = Tree {
         docket,
+        nodes,
+        assumed,
         states,
-        verdicts: [states & !ones, ones],
         fixed,
         only_fixed: fixed & !inputs,
     };
@@ -102,7 +186,7 @@ pub fn check(docket: &Docket) -> Result<(), Refusal> {
     facts.absent[0] = states & !inputs & !fixed;
     facts.present[0] = fixed;
     let end = tree.descend(0, &facts, 1)?;
-    if end < docket.nodes.len() {
+    if end < nodes.len() {
         return refuse(12, end);
     }
     Ok(())
@@ -112,10 +196,10 @@ fn meets(set: u64, a: u8, b: u8) -> bool {
     (set >> (a & 63) | set >> (b & 63)) & 1 == 1
 }
 
-impl Tree<'_> {
+impl<A: Assumed> Tree<'_, A> {
     /// The subtree at a place: the place after it.
     fn descend(&self, place: usize, facts: &Facts, depth: usize) -> Result<usize, Refusal> {
-        let Some(record) = self.docket.nodes.get(place) else {
+        let Some(record) = self.nodes.get(place) else {
             return refuse(12, place);
         };
         let node = Node::read(record);
@@ -134,17 +218,16 @@ impl Tree<'_> {
     }
 
     fn fields_fit(&self, node: &Node) -> bool {
-        let run = node.party == 1 || node.party == 2;
+        let run = (1..=A::RUNS).contains(&node.party);
         let set = match node.kind {
             0..5 => node.set == 0,
-            7 => MODULI.contains(&node.set),
+            7 => A::RUNS == 2 && MODULI.contains(&node.set),
             _ => node.set != 0 && node.set & !self.states == 0,
         };
-        let leaves = self.docket.leaf_weights.len() / (2 * self.docket.states.len());
         set && match node.kind {
-            0 | 7 => node.party == 0 && node.argument < leaves,
+            0 | 7 => node.party == 0 && node.argument < self.assumed.leaves(),
             1 | 5 | 6 => run && node.argument == 0,
-            2 | 4 => node.party <= 2 && node.argument < self.docket.states.len(),
+            2 | 4 => node.party <= A::RUNS && node.argument < self.docket.states.len(),
             3 => run && node.argument < self.docket.rules.len(),
             _ => false,
         }
@@ -152,12 +235,12 @@ impl Tree<'_> {
 
     fn ground_holds(&self, node: &Node, facts: &Facts) -> bool {
         match node.kind {
-            0 => self.leaf_closes(&self.leaf(node.argument), facts),
-            1 => self.verdicts[node.party - 1] & !facts.absent[node.party] == 0,
+            0 => self.leaf_closes(&self.assumed.leaf(node.argument), facts),
+            1 => self.assumed.output(node.party) & !facts.absent[node.party] == 0,
             2 => (facts.present[node.party] & facts.absent[node.party]) >> node.argument & 1 == 1,
             5 => node.set & !facts.absent[node.party] == 0 && self.is_trap(node, facts),
             6 => node.set & !facts.absent[0] == 0 && self.is_trap(node, facts),
-            7 => self.remainder_closes(&self.leaf(node.argument), node.set as i32, facts),
+            7 => self.remainder_closes(&self.assumed.leaf(node.argument), node.set as i32, facts),
             _ => true,
         }
     }
@@ -201,39 +284,32 @@ impl Tree<'_> {
         }
     }
 
-    fn leaf(&self, leaf: usize) -> Leaf<'_> {
-        let states = self.docket.states.len();
-        let weights = &self.docket.leaf_weights[2 * leaf * states..][..2 * states];
-        let (first, second) = weights.split_at(states);
-        Leaf { ends: [first, second] }
-    }
-
     /// Whether what each used rule adds to the weights of its run is allowed.
-    fn rules_allow(&self, leaf: &Leaf, facts: &Facts, allowed: impl Fn(i32) -> bool) -> bool {
+    fn rules_allow(&self, leaf: &impl Weights, facts: &Facts, allowed: impl Fn(i32) -> bool) -> bool {
         let mut rules = self.docket.rules.iter().enumerate();
-        rules.all(|(r, rule)| (1..3).all(|run| facts.is_unused(run, r) || allowed(leaf.added(run, rule))))
+        rules.all(|(r, rule)| (1..=A::RUNS).all(|run| facts.is_unused(run, r) || allowed(leaf.added(run, rule))))
     }
 
     /// The leaf rule.
-    fn leaf_closes(&self, leaf: &Leaf, facts: &Facts) -> bool {
+    fn leaf_closes(&self, leaf: &impl Weights, facts: &Facts) -> bool {
         if !self.rules_allow(leaf, facts, |added| added <= 0) {
             return false;
         }
-        let (mut lower, mut upper) = (0, 0);
+        let (mut lower, mut upper) = (0, leaf.upper());
         for state in 0..self.docket.states.len() {
             let has = |set: u64| set >> state & 1 == 1;
             if !has(facts.absent[0]) {
-                let sum = leaf.y(1, state) + leaf.y(2, state);
-                if sum > 0 && !has(self.only_fixed) {
+                let start = leaf.start(state);
+                if start > 0 && !has(self.only_fixed) {
                     return false;
                 }
                 upper += match has(self.fixed) {
-                    true => i32::from(self.docket.states.fixed(state)) * sum,
-                    false if has(facts.present[0]) => sum,
+                    true => i64::from(self.docket.states.fixed(state)) * start,
+                    false if has(facts.present[0]) => start,
                     false => 0,
                 };
             }
-            for end in 1..3 {
+            for end in 1..=A::RUNS {
                 let weight = leaf.y(end, state);
                 if has(facts.absent[end]) {
                     continue;
@@ -248,11 +324,11 @@ impl Tree<'_> {
                 };
             }
         }
-        lower > upper
+        i64::from(lower) > upper
     }
 
     /// The remainder rule.
-    fn remainder_closes(&self, leaf: &Leaf, modulus: i32, facts: &Facts) -> bool {
+    fn remainder_closes(&self, leaf: &impl Weights, modulus: i32, facts: &Facts) -> bool {
         if !self.rules_allow(leaf, facts, |added| added % modulus == 0) {
             return false;
         }
@@ -260,14 +336,14 @@ impl Tree<'_> {
         for state in 0..self.docket.states.len() {
             let has = |set: u64| set >> state & 1 == 1;
             if !has(facts.absent[0]) {
-                let both = leaf.y(1, state) + leaf.y(2, state);
+                let start = leaf.start(state) as i32;
                 if has(self.only_fixed) {
-                    sum -= i32::from(self.docket.states.fixed(state)) * both;
-                } else if both % modulus != 0 {
+                    sum -= i32::from(self.docket.states.fixed(state)) * start;
+                } else if start % modulus != 0 {
                     return false;
                 }
             }
-            for end in 1..3 {
+            for end in 1..=A::RUNS {
                 let weight = leaf.y(end, state);
                 if has(facts.absent[end]) {
                     continue;

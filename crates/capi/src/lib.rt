@@ -5,10 +5,11 @@ ghost use lib.ListN.{length};
 ghost use Rattle.theory.specs.Machine.{step as stepCall, run as runCall};
 ghost use Rattle.format.specs.Format.{sections};
 ghost use Rattle.checker.specs.Check.{checkOf};
+ghost use Rattle.sheet.specs.Sheet.{checkSheetOf};
 ghost use Rattle.writer.specs.Write.{writeOf, outputOf};
 ghost use Rattle.machine.specs.Calls.{startOf, pairsOf, terminalOf, verdictOf, replyOf, countsOf};
 ghost use Rattle.page.specs.Page.{pageOf, countsAfterPage, resultsAfterPage};
-ghost use Rattle.codes.specs.Codes.{checkCode, checkFigures, writeCode, writeTotal, startCode, pageCode};
+ghost use Rattle.codes.specs.Codes.{checkCode, sheetCode, checkFigures, writeCode, writeTotal, startCode, pageCode};
 ghost use Rattle.codes.specs.Codes.{pairsCode, pairsValue, yesNoCode, yesNoValue, verdictCode, verdictValue, replyCode, replySteps, replyRests};
 use checker::Checked;
 use machine::Pairs;
@@ -23,6 +24,14 @@ pub extern "C" fn docket_check(docket: &[u8]) -> u64
     ensures { λ r. ⌜ r ≡ checkCode (checkOf (now (docket .entry))) ⌝ }
 {
     codes::check_code(checker::check(docket))
+}
+
+// The check of a docket with its claim sheet: 0 for accepted, else the refusal as the check's.
+#[no_mangle]
+pub extern "C" fn docket_check_sheet(docket: &[u8], sheet: &[u8]) -> u64
+    ensures { λ r. ⌜ r ≡ sheetCode (checkSheetOf (now (docket .entry)) (now (sheet .entry))) ⌝ }
+{
+    codes::sheet_code(sheet::check_sheet(docket, sheet))
 }
 
 // The check, and S R L N W M where it accepts.

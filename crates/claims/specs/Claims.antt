@@ -1,7 +1,8 @@
 -- What is proved: begin here. Statements only. The record Claims has one field for each subject; the statements of a subject
 -- stand in a file of its own, those about dockets in OfDocket.antt, those about the writer in OfWriter.antt, those about the
 -- order of rules in OfOrder.antt, those about the number of pairs in OfPairs.antt, those about versions in OfVersions.antt, those
--- about pages in OfPage.antt, those about totals in OfTotals.antt, and the proofs in the folder beside each file.
+-- about pages in OfPage.antt, those about totals in OfTotals.antt, those about claim sheets in OfSheet.antt, and the proofs in the folder
+-- beside each file.
 use mathlib.Core.List.{List}
 use Prim.Native.Nat.{ℕ}
 use Rattle.claims.specs.OfDocket.{OfDocket}
@@ -11,6 +12,7 @@ use Rattle.claims.specs.OfPairs.{OfPairs}
 use Rattle.claims.specs.OfVersions.{OfVersions}
 use Rattle.claims.specs.OfPage.{OfPage}
 use Rattle.claims.specs.OfTotals.{OfTotals}
+use Rattle.claims.specs.OfSheet.{OfSheet}
 pub mod Proved
 
 -- The claims, one field for each subject.
@@ -29,3 +31,5 @@ pub record Claims : Type 0 where
   pub of-page : OfPage
   -- Of the sheet of exact totals, which the program tally prints.
   pub of-totals : OfTotals
+  -- Of claim sheets, which say what a vote decides.
+  pub of-sheet : OfSheet

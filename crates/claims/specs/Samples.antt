@@ -7,11 +7,12 @@ use native.Mathlib.Omega.{arith}
 use lib.Dec.{ltb}
 use lib.ListN.{length, getD, take, drop, set, replicate}
 use Rattle.theory.specs.Below.{allBelow}
+use Rattle.theory.specs.Protocol.{Start}
 use Rattle.theory.specs.Ladder.{spreads}
 use Rattle.theory.specs.Tree.{widest}
 use Rattle.theory.specs.Machine.{run, ran, admitted}
 use Rattle.shape.specs.Shape.{refusal}
-use Rattle.theory.specs.Unfold.{walking, calling, starting}
+use Rattle.theory.specs.Unfold.{walking, claiming, calling, starting}
 use Rattle.format.specs.Format.{headerOf, Sections, sectionsOf, protocolIn}
 use Rattle.format.specs.declared.Header.{Header}
 use Rattle.format.specs.Samples.{broadcast, majority, twoOutcomes, parity, seeded, quorum}
@@ -39,6 +40,11 @@ use Rattle.totals.specs.Totals.{stepsToRest, restsOn, restingOn, stepsAt, first
 use Rattle.totals.specs.declared.Tallied.{Tallied}
 use Rattle.totals.specs.declared.Tallied.the-variants as tallied
 use Rattle.totals.specs.declared.Tallied.the-variants.{Counted}
+use Rattle.sheetshape.specs.SheetShape.{badSheetLeaf, sheetFault}
+use Rattle.sheet.specs.Samples.{broadcastSheet, quorumSheet}
+use Rattle.sheet.specs.Sheet.{sheetCheck, checkSheetOf}
+use Rattle.sheet.specs.declared.SheetChecked.{SheetChecked}
+use Rattle.sheet.specs.declared.SheetChecked.the-variants as claimed
 use Rattle.claims.specs.OfDocket.{Rules, Demand3}
 use Rattle.claims.specs.OfWriter.{Readable, Wrote}
 use Rattle.claims.specs.OfVersions.{widened, inVersion2}
@@ -46,6 +52,7 @@ use Rattle.claims.specs.OfOrder.{RulesAmong, SoundVersion2}
 use Rattle.claims.specs.OfPairs.{PairsTell}
 use Rattle.claims.specs.OfPage.{PagesSettle}
 use Rattle.claims.specs.OfTotals.{TotalsAre}
+use Rattle.claims.specs.OfSheet.{Decides}
 use Rattle.claims.specs.Claims.Proved.{claims}
 use Rattle.claims.specs.Dockets.OneLayer.{one-layer}
 use Rattle.claims.specs.Dockets.{cut, longer, exchanged, withoutAbsent, oneLayer, inputFixed}
@@ -53,7 +60,7 @@ use Rattle.claims.specs.Dockets.{cut, longer, exchanged, withoutAbsent, 
 -- A sample: what the check says of a docket; what a run with the greatest limit does from given counts; what the check says
 -- whatever the weights; what the writer of a version says of sections, and what it leaves in the output; what the start test
 -- says; what the can-act call says of a rule number; what a page with this limit says, and the counts and results that it leaves; what
--- the sheet of totals with so many agents says, and the start that it shows.
+-- the sheet of totals with so many agents says, and the start that it shows; what the check of a docket with a claim sheet says.
 pub data Sample : Type 0 where
   says : List ℕ → Checked → Sample
   rests : List ℕ → List ℕ → ℕ → List ℕ → Bool → Sample
@@ -63,6 +70,7 @@ pub data Sample : Type 0 where
   meets : List ℕ → List ℕ → ℕ → Pairs → Sample
   pages : List ℕ → List ℕ → ℕ → List ℕ → Paged → List ℕ → List ℕ → Sample
   tallies : List ℕ → ℕ → Tallied → List ℕ → Sample
+  decides : List ℕ → List ℕ → SheetChecked → Sample
 
 abbrev pub Holds : Sample → Type 0
 -- The check of b answers a.
@@ -85,6 +93,8 @@ Holds (meets b c r a) = pairsOf b c r ≡ a
 Holds (pages b c limit r a d e) = (pageOf b c r ≡ a) × (countsAfterPage b c limit r ≡ d) × (resultsAfterPage b c limit r ≡ e)
 -- The sheet of totals of b with n agents says a and shows the counts c, with 0 behind them.
 Holds (tallies b n a c) = (sheetOf b n .tallied ≡ a) × (sheetOf b n .first ≡ c ++ replicate (64 - length c) 0)
+-- The check of b with the claim sheet y answers a.
+Holds (decides b y a) = checkSheetOf b y ≡ a
 
 abbrev pub AllHold : List Sample → Type 0
 AllHold [] = Unit {0}
@@ -234,9 +244,31 @@ sheetsCounted =
     ∷ []
 
 -- The names that samples unfold.
+-- Samples of document 02, Job 10: broadcast with its sheet; with the limits 0 and 2, which the first and the second tree do not prove; with
+-- the last byte cut, and with the multiplier 10,001; a node of kind 7, and the last node of the second tree that needs another; the sheet
+-- with a docket that is refused, and cut as well. Quorum with its sheet; with a number at K0, which is no input; with two agents fixed in
+-- K0, where the docket's own check refuses; and the sheet of broadcast with quorum.
+abbrev pub sheetsClaimed : List Sample
+sheetsClaimed =
+    decides broadcast broadcastSheet claimed.Accepted
+    ∷ decides broadcast (set broadcastSheet 20 0) (claimed.Refused (refusal 13 3))
+    ∷ decides broadcast (set broadcastSheet 20 2) (claimed.Refused (refusal 13 7))
+    ∷ decides broadcast (take 125 broadcastSheet) (claimed.Refused (refusal 15 0))
+    ∷ decides broadcast (set (set broadcastSheet 124 17) 125 39) (claimed.Refused (refusal 15 0))
+    ∷ decides broadcast (set (set broadcastSheet 60 7) 64 2) (claimed.Refused (refusal 12 3))
+    ∷ decides broadcast (set broadcastSheet 108 4) (claimed.Refused (refusal 12 8))
+    ∷ decides (set broadcast 31 0) broadcastSheet (claimed.Refused (refusal 9 0))
+    ∷ decides (set broadcast 31 0) (take 125 broadcastSheet) (claimed.Refused (refusal 9 0))
+    ∷ decides quorum quorumSheet claimed.Accepted
+    ∷ decides quorum (set quorumSheet 20 1) (claimed.Refused (refusal 15 0))
+    ∷ decides (set quorum 31 2) quorumSheet (claimed.Refused (refusal 13 11))
+    ∷ decides quorum broadcastSheet (claimed.Refused (refusal 15 0))
+    ∷ []
+
 unfoldable sampling : ℕ
 unfolding writing shaping walking calling widened badLeaf sectionsCheck checkOf replyOf countsOf verdictOf verdictAnswer startOf startAnswer
     pairsOf pairsAnswer eachPart pageOf countsAfterPage resultsAfterPage starting stepsToRest restsOn restingOn stepsAt firstMost sheetIn sheetOf
+    claiming badSheetLeaf sheetFault sheetCheck checkSheetOf
 sampling = 0
 
 pub samples-hold : AllHold samples
@@ -294,6 +326,10 @@ sheets-hold = (
   (refl, refl),
   ((refl, refl), ((refl, refl), ((refl, refl), ((refl, refl), ((refl, refl), ((refl, refl), ((refl, refl), ((refl, refl), tt)))))))),
 )
+
+pub claims-hold : AllHold sheetsClaimed
+unfolding sampling
+claims-hold = (refl, (refl, (refl, (refl, (refl, (refl, (refl, (refl, (refl, (refl, (refl, (refl, (refl, tt)))))))))))))
 
 -- So demand 3 holds of a docket in which a pair has two outcomes: what it says of rest and verdict is not empty there.
 pub outcomes-settle : (c : List ℕ) → Demand3 twoOutcomes (headerOf twoOutcomes) c
@@ -360,3 +396,10 @@ majority-page = claims .of-page .settles majority (_, samples-hold .1 .1 .1 .1 .
 -- The totals of majority with three workers are what the claims say of them.
 pub majority-totals : TotalsAre majority 3 (record { states = 4; starts = 4; zeros = 2; ones = 2; most = 2 }) (sheetOf majority 3 .first)
 majority-totals = claims .of-totals .totals-are majority 3 _ (sheets-hold .1 .0 .0)
+
+-- What the sheets of broadcast and of quorum claim holds of every vote from every start.
+pub broadcast-decides : (c : List ℕ) → Start (protocolIn broadcast (headerOf broadcast)) c → Decides broadcast broadcastSheet c
+broadcast-decides = claims .of-sheet .decides broadcast broadcastSheet (claims-hold .0)
+
+pub quorum-decides : (c : List ℕ) → Start (protocolIn quorum (headerOf quorum)) c → Decides quorum quorumSheet c
+quorum-decides = claims .of-sheet .decides quorum quorumSheet (claims-hold .1 .1 .1 .1 .1 .1 .1 .1 .1 .0)

@@ -7,6 +7,8 @@ use Rattle.shape.specs.Shape.{refusal}
 use Rattle.shape.specs.declared.Refusal.{Refusal}
 use Rattle.checker.specs.declared.Checked.{Checked}
 use Rattle.checker.specs.declared.Checked.the-variants as checked
+use Rattle.sheet.specs.declared.SheetChecked.{SheetChecked}
+use Rattle.sheet.specs.declared.SheetChecked.the-variants as sheet
 use Rattle.writer.specs.declared.Written.{Written}
 use Rattle.writer.specs.declared.Written.the-variants as writing
 use Rattle.machine.specs.declared.Started.{Started}
@@ -23,7 +25,7 @@ pub mod Laws
 
 -- ---- Refusals
 
--- A refusal of the check: number times 65,536 plus place.
+-- A refusal of the check, and of the check with a claim sheet: number times 65,536 plus place.
 abbrev pub code : Refusal → ℕ
 code r = r .number * 65536 + r .place
 
@@ -38,6 +40,11 @@ callCode r = r .number * 4294967296 + r .place
 abbrev pub checkCode : Checked → ℕ
 checkCode (checked.Accepted f) = 0
 checkCode (checked.Refused r) = code r
+
+-- The check with a claim sheet.
+abbrev pub sheetCode : SheetChecked → ℕ
+sheetCode sheet.Accepted = 0
+sheetCode (sheet.Refused r) = code r
 
 -- The writer.
 abbrev pub writeCode : Written → ℕ

@@ -1,16 +1,17 @@
-// The numbers that C is handed: refusals, yes and no, the figures of an accepted docket, and what the check, the start test,
-// a step and a page return.
+// The numbers that C is handed: refusals, yes and no, the figures of an accepted docket, and what the checks, the start test, a
+// step and a page return.
 ghost use mathlib.Core.Path.{_≡_};
 ghost use mathlib.Core.List.{[], _∷_};
 ghost use Rattle.theory.specs.Bool.{bit};
 ghost use Rattle.machine.specs.Code.{replyOfStep};
-ghost use Rattle.codes.specs.Codes.{code, callCode, checkCode, startCode, replyCode, pageCode};
+ghost use Rattle.codes.specs.Codes.{code, callCode, checkCode, sheetCode, startCode, replyCode, pageCode};
 use checker::Checked;
 use checker::Summary;
 use machine::Started;
 use machine::Stepped;
 use page::Paged;
 use shape::Refusal;
+use sheet::SheetChecked;
 
 // A refusal of the check: its number in front of 16 bits for its place.
 pub fn check_refusal(r: Refusal) -> u64
@@ -54,6 +55,16 @@ pub fn check_code(a: Checked) -> u64
     match a {
         Checked::Accepted(_) => 0,
         Checked::Refused(r) => check_refusal(r),
+    }
+}
+
+// What the check of a docket with its claim sheet returns.
+pub fn sheet_code(a: SheetChecked) -> u64
+    ensures { λ n. ⌜ n ≡ sheetCode a ⌝ }
+{
+    match a {
+        SheetChecked::Accepted => 0,
+        SheetChecked::Refused(r) => check_refusal(r),
     }
 }
 

@@ -69,7 +69,7 @@ fn byte(b: &[u8], k: usize) -> usize
 }
 
 // The 16-bit number at k.
-fn read16(b: &[u8], k: usize) -> u16
+pub fn read16(b: &[u8], k: usize) -> u16
     ensures { λ r. ⌜ r ≡ le16 (now (b .entry)) k ⌝ }
 {
     let len = b.len();
@@ -96,7 +96,7 @@ fn read_halves(b: &[u8], k: usize) -> u32
 }
 
 // The 32-bit number at k. Where all four bytes are there, they are read at once.
-fn read32(b: &[u8], k: usize) -> u32
+pub fn read32(b: &[u8], k: usize) -> u32
     ensures { λ r. ⌜ r ≡ le32 (now (b .entry)) k ⌝ }
 {
     let len = b.len();
@@ -124,7 +124,7 @@ fn read64(b: &[u8], k: usize) -> u64
 }
 
 // The n bytes from byte k on, or as many as there are.
-fn section(b: &[u8], k: usize, n: usize) -> &[u8]
+pub fn section(b: &[u8], k: usize, n: usize) -> &[u8]
     ensures { λ r. ⌜ now r ≡ sectionOf (now (b .entry)) k n ⌝ }
 {
     let len = b.len();

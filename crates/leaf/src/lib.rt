@@ -26,7 +26,7 @@ struct Change {
 }
 
 // The first state at which leaf l has a weight outside -10,000 to 10,000 at end e + 1, or the number of states.
-fn first_fault(leaves: &[u8], z: Sizes, l: u16, e: u16) -> u16
+pub fn first_fault(leaves: &[u8], z: Sizes, l: u16, e: u16) -> u16
     ensures { λ r. ⌜ r ≡ firstBelow (z .states) (overLimit z (now (leaves .entry)) l e) ⌝ }
 {
     let mut s: u16 = 0;
@@ -155,7 +155,7 @@ fn word_keeps(
 
 // Whether every rule that is not unused in run e + 1 keeps the weight of end e + 1. The set of unused rules is read once for
 // 64 rules.
-fn rules_keep(
+pub fn rules_keep(
     by: Closing,
     facts: Facts,
     states: &[u8],
@@ -184,7 +184,7 @@ fn rules_keep(
 }
 
 // What the facts say of the states at the party.
-fn known_at(facts: Facts, party: usize) -> Known
+pub fn known_at(facts: Facts, party: usize) -> Known
     ensures { λ r. ⌜ KnownAt (factsOf facts) party r ⌝ }
 {
     let absent = facts.absent(party);
@@ -197,7 +197,7 @@ fn known_at(facts: Facts, party: usize) -> Known
 }
 
 // The fixed agents of state s.
-fn fixed_at(states: &[u8], z: Sizes, s: u16) -> Fixed
+pub fn fixed_at(states: &[u8], z: Sizes, s: u16) -> Fixed
     ensures { λ x. ⌜ x ≡ fixedAt z (now (states .entry)) s ⌝ }
 {
     let agents = format::fixed_agents(states, z, s);

@@ -10,12 +10,14 @@ use Rattle.theory.specs.Below.{allBelow}
 use Rattle.theory.specs.Protocol.{Protocol}
 use Rattle.theory.specs.Facts.{Facts, withAbsent, withAtMostOne, withUnused}
 use Rattle.theory.specs.Tree as theory
-use Rattle.theory.specs.Tree.{Assumption, assuming, refusalNumber, ground, children, takes, puts, touches, within, isTrap, isSiphon, node}
+use Rattle.theory.specs.Tree.{Assumption, refusalNumber, ground, children, takes, puts, touches, within, isTrap, isSiphon, node}
 use Rattle.bits.specs.Code.{amongOf, withoutOf, inWords, inWord}
 use Rattle.format.specs.Format.{isOutput, ruleP, ruleQ, nodeKind, nodeParty, nodeArgument, nodeSet}
-use Rattle.format.specs.Format.{protocolOf, treeOf, weightsOf}
+use Rattle.format.specs.Format.{protocolOf, treeOf}
 use Rattle.format.specs.declared.Sizes.{Sizes}
 use Rattle.facts.specs.Code.{factsOf, isEnd, onlyIf}
+use Rattle.threshold.specs.Code.{closesFor, moduliFor, closesModuloFor}
+use Rattle.threshold.specs.declared.Leaves.{Leaves}
 use Rattle.node.specs.declared.Aim.{Aim}
 use Rattle.node.specs.declared.Flow.{Flow}
 use Rattle.node.specs.declared.Node.{Node}
@@ -34,9 +36,16 @@ outputAt a k = cond (eqb k 2) (a .second) (a .first)
 unfoldable pub assumedWord : Aim → ℕ → ℕ
 assumedWord a k = cond (outputAt a k) (a .ones) (a .zeros)
 
--- What the aim assumes, weights l being the weights of leaf l.
-abbrev pub assumptionOf : Protocol → (ℕ → ℕ → ℕ → ℕ) → Aim → Assumption
-assumptionOf P weights a = assuming P (a .runs) (outputAt a) weights
+-- What the aim assumes, of a tree with these leaves; the numbers are those of a claim sheet.
+abbrev pub assumptionOf : Protocol → Sizes → List ℕ → List ℕ → Aim → Assumption
+assumptionOf P z numbers leaves a =
+    record {
+      runs = a .runs;
+      assumed = outputAt a;
+      closes = closesFor P z numbers leaves (a .whose);
+      moduli = moduliFor (a .whose);
+      closesModulo = closesModuloFor P z leaves (a .whose);
+    }
 
 -- The aim speaks of at most two runs, and its words hold the states of each output.
 pub record AimFits (z : Sizes) (states : List ℕ) (a : Aim) : Type 0 where
@@ -90,10 +99,10 @@ unfoldable pub nodeTurn : Protocol → Assumption → Facts → theory.Node → 
 nodeTurn P H F n = check (ground P H F n) (refusalNumber n) (proceed (children P F n))
 
 -- What node i of the sections comes to.
-unfoldable pub turnAt : Sizes → List ℕ → List ℕ → List ℕ → List ℕ → Aim → Facts → ℕ → Turn
-turnAt z states rules nodes leaves aim F i =
+unfoldable pub turnAt : Sizes → List ℕ → List ℕ → List ℕ → List ℕ → List ℕ → Aim → Facts → ℕ → Turn
+turnAt z states rules nodes numbers leaves aim F i =
     let P = protocolOf z states rules in
-    let H = assumptionOf P (weightsOf z leaves) aim in
+    let H = assumptionOf P z numbers leaves aim in
     nodeTurn P H F (node P H (treeOf z nodes) i)
 
 -- What an outcome with the facts of two children says, and what the struct Step says.
@@ -130,8 +139,8 @@ setFields z runs n =
     leb 1 (n .party) && leb (n .party) runs && eqb (n .argument) 0 && (ltb 0 (n .set) && ltb (n .set) (2 ^ z .states))
 
 -- Kind 7: the argument is a leaf, the set a modulus.
-abbrev pub remainderFields : Sizes → Node → Bool
-remainderFields z n = eqb (n .party) 0 && ltb (n .argument) (z .leaves) && (leb 2 (n .set) && leb (n .set) 1000)
+abbrev pub remainderFields : Sizes → Leaves → Node → Bool
+remainderFields z whose n = eqb (n .party) 0 && ltb (n .argument) (z .leaves) && moduliFor whose (n .set)
 
 -- Kind 1: all states of the output assumed for end k are absent there.
 unfoldable pub outputGone : Sizes → List ℕ → Aim → Facts → ℕ → Bool

@@ -7,29 +7,29 @@ ghost use Prim.Native.Nat.{_^_, _≤_, _<_};
 ghost use lib.Dec.{eqb, ltb};
 ghost use Rattle.theory.specs.Bool.{member};
 ghost use Rattle.theory.specs.Facts.{withAbsent, withPresent};
-ghost use Rattle.theory.specs.Leaf.{leafCloses};
-ghost use Rattle.theory.specs.Remainder.{remainderCloses};
 ghost use Rattle.theory.specs.Tree.{touches};
-ghost use Rattle.format.specs.Format.{ruleP, ruleQ, protocolOf, weightsOf};
+ghost use Rattle.format.specs.Format.{ruleP, ruleQ, protocolOf};
 ghost use Rattle.bits.specs.Code.{inWords};
 ghost use Rattle.shape.specs.Code.{SoundRules};
 ghost use Rattle.facts.specs.Code.{factsOf};
+ghost use Rattle.threshold.specs.Code.{closesFor, closesModuloFor};
 ghost use Rattle.node.specs.Code.{assumedWord, AimFits, nodeOf, FlowAt, breakingOf, isTrapOf};
 ghost use Rattle.node.specs.Code.{check, judged, turnAt, turnOfOutcome, turnOfStep};
 ghost use Rattle.node.specs.Code.{leafFields, runFields, stateFields, ruleFields, setFields, remainderFields};
 ghost use Rattle.node.specs.Code.{outputGone, NamesRule, disabledChildren, NamesSet, partyIf, goneOf, setGround, setChild};
 use facts::Facts;
 use format::Sizes;
-use share::Closing;
+use threshold::Leaves;
 
-// What a tree refutes: so many runs, each of which ends with a state of the output assumed for it; and the states of
-// output 0 and of output 1.
+// What a tree refutes: so many runs, each of which ends with a state of the output assumed for it; the states of output 0 and of
+// output 1; and whose leaves the tree has.
 pub struct Aim {
     pub runs: usize,
     pub first: bool,
     pub second: bool,
     pub zeros: u64,
     pub ones: u64,
+    pub whose: Leaves,
 }
 
 // The fields of a node.
@@ -110,12 +110,22 @@ fn judge(fields: bool, ground: bool, outcome: Outcome, first: Facts, second: Fac
 }
 
 // Kind 0: the leaf rule.
-fn leaf_step(states: &[u8], rules: &[u8], leaves: &[u8], z: Sizes, n: Node, facts: Facts) -> Step
-    ensures { λ r. ⌜ turnOfStep r ≡ judged (leafFields z n) (leafCloses (protocolOf z (now (states .entry)) (now (rules .entry)))
-        (factsOf facts) (weightsOf z (now (leaves .entry)) (n .argument))) [] ⌝ }
+fn leaf_step(
+    states: &[u8],
+    rules: &[u8],
+    numbers: &[u8],
+    leaves: &[u8],
+    z: Sizes,
+    whose: Leaves,
+    n: Node,
+    facts: Facts,
+) -> Step
+    requires { ⌜ z .states ≤ 64 ⌝ }
+    ensures { λ r. ⌜ turnOfStep r ≡ judged (leafFields z n) (closesFor (protocolOf z (now (states .entry)) (now (rules .entry))) z
+        (now (numbers .entry)) (now (leaves .entry)) whose (factsOf facts) (n .argument)) [] ⌝ }
 {
     let fields = (n.party == 0) & (n.argument < z.leaves) & (n.set == 0);
-    let closes = leaf::leaf_closes(Closing::BySums, facts, states, rules, leaves, z, n.argument);
+    let closes = threshold::leaf_holds(whose, facts, states, rules, numbers, leaves, z, n.argument);
     judge(fields, closes, Outcome::Closed, facts, facts)
 }
 
@@ -354,24 +364,34 @@ fn remainder_step(
     rules: &[u8],
     leaves: &[u8],
     z: Sizes,
+    whose: Leaves,
     n: Node,
     facts: Facts,
 ) -> Step
-    ensures { λ r. ⌜ turnOfStep r ≡ judged (remainderFields z n)
-        (remainderCloses (protocolOf z (now (states .entry)) (now (rules .entry))) (n .set)
-        (factsOf facts) (weightsOf z (now (leaves .entry)) (n .argument))) [] ⌝ }
+    ensures { λ r. ⌜ turnOfStep r ≡ judged (remainderFields z whose n) (closesModuloFor (protocolOf z (now (states .entry))
+        (now (rules .entry))) z (now (leaves .entry)) whose (n .set) (factsOf facts) (n .argument)) [] ⌝ }
 {
-    let fields = (n.party == 0) & (n.argument < z.leaves) & ((2 <= n.set) & (n.set <= 1000));
-    let by = Closing::ByRemainders(n.set);
-    let closes = leaf::leaf_closes(by, facts, states, rules, leaves, z, n.argument);
+    let modulus = threshold::is_modulus(whose, n.set);
+    let fields = (n.party == 0) & (n.argument < z.leaves) & modulus;
+    let closes = threshold::remainder_holds(
+        whose,
+        n.set,
+        facts,
+        states,
+        rules,
+        leaves,
+        z,
+        n.argument,
+    );
     judge(fields, closes, Outcome::Closed, facts, facts)
 }
 
-// Node i on the facts, by its kind.
+// Node i on the facts, by its kind. The numbers are those of a claim sheet; a docket has none.
 pub fn node_step(
     states: &[u8],
     rules: &[u8],
     nodes: &[u8],
+    numbers: &[u8],
     leaves: &[u8],
     z: Sizes,
     aim: Aim,
@@ -380,20 +400,21 @@ pub fn node_step(
 ) -> Step
     requires { ⌜ SoundRules z (now rules) ⌝ }
     requires { ⌜ AimFits z (now states) aim ⌝ }
-    ensures { λ r. ⌜ turnOfStep r ≡ turnAt z (now (states .entry)) (now (rules .entry)) (now (nodes .entry)) (now (leaves .entry))
-        aim (factsOf facts) i ⌝ }
+    ensures { λ r. ⌜ turnOfStep r ≡ turnAt z (now (states .entry)) (now (rules .entry)) (now (nodes .entry)) (now (numbers .entry))
+        (now (leaves .entry)) aim (factsOf facts) i ⌝ }
 {
     let n = node_at(nodes, i);
     let kind = n.kind;
     let reversed = kind == 6;
+    let whose = aim.whose;
     match kind {
-        0 => leaf_step(states, rules, leaves, z, n, facts),
+        0 => leaf_step(states, rules, numbers, leaves, z, whose, n, facts),
         1 => output_step(states, z, aim, n, facts),
         2 => contradiction_step(z, aim.runs, n, facts),
         3 => disabled_step(rules, z, aim.runs, n, facts),
         4 => split_step(z, aim.runs, n, facts),
         5 | 6 => set_step(states, rules, z, aim.runs, n, facts, reversed),
-        7 => remainder_step(states, rules, leaves, z, n, facts),
+        7 => remainder_step(states, rules, leaves, z, whose, n, facts),
         8..=255 => judge(false, true, Outcome::Closed, facts, facts),
     }
 }

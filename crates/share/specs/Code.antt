@@ -40,9 +40,9 @@ pub record KnownAt (F : Facts) (k : ℕ) (w : Known) : Type 0 where
 abbrev pub fixedIn : Protocol → ℕ → Fixed
 fixedIn P s = record { agents = P .fixed s; only = onlyFixed P s }
 
--- The share of a state that joins a sum n times, y being the sum of its weights, plus 20,000.
-abbrev pub joinedOf : Bool → ℕ → ℕ → Share
-joinedOf t n y = record { allowed = t; gains = n * (20000 - y); losses = n * (y - 20000) }
+-- The share of a state that joins a sum n times, y being what joins, plus b.
+abbrev pub joinedOf : Bool → ℕ → ℕ → ℕ → Share
+joinedOf t n b y = record { allowed = t; gains = n * (b - y); losses = n * (y - b) }
 
 -- How many times state s joins the upper sum.
 unfoldable pub timesOf : Known → Fixed → ℕ → ℕ
@@ -52,9 +52,9 @@ timesOf k f s = cond (ltb 0 (f .agents)) (bit (not (member (k .absent) s)) * f .
 unfoldable pub knownOf : Known → Fixed → ℕ → ℕ
 knownOf k f s = bit (not (member (k .absent) s) && f .only) * f .agents
 
--- The share of state s at the start, by sums.
-unfoldable pub startShare : Known → Fixed → ℕ → ℕ → Share
-startShare k f s y = joinedOf (member (k .absent) s || (f .only || leb y 20000)) (timesOf k f s) y
+-- The share of state s at the start, by sums, y being what joins the upper sum, plus b.
+unfoldable pub startShare : Known → Fixed → ℕ → ℕ → ℕ → Share
+startShare k f s b y = joinedOf (member (k .absent) s || (f .only || leb y b)) (timesOf k f s) b y
 
 -- The share of state s at an end, by sums, y being its weight there, plus 10,000.
 unfoldable pub endShare : Known → ℕ → ℕ → Share
@@ -67,7 +67,7 @@ endShare k s y =
 
 -- The same by remainders.
 unfoldable pub startRemainder : ℕ → Known → Fixed → ℕ → ℕ → Share
-startRemainder m k f s y = joinedOf (member (k .absent) s || (f .only || congruent m y 20000)) (knownOf k f s) y
+startRemainder m k f s y = joinedOf (member (k .absent) s || (f .only || congruent m y 20000)) (knownOf k f s) 20000 y
 
 unfoldable pub endRemainder : ℕ → Known → ℕ → ℕ → Share
 endRemainder m k s y =
@@ -90,13 +90,13 @@ sumOf a b c =
 -- The share of state s, by its fixed agents and by what is known at the start, at end 1 and at end 2; v and w are its weights
 -- at the ends, plus 10,000.
 unfoldable pub shareBy : Closing → Fixed → Known → Known → Known → ℕ → ℕ → ℕ → Share
-shareBy BySums f a b c s v w = sumOf (startShare a f s (v + w)) (endShare b s v) (endShare c s w)
+shareBy BySums f a b c s v w = sumOf (startShare a f s 20000 (v + w)) (endShare b s v) (endShare c s w)
 shareBy (ByRemainders m) f a b c s v w = sumOf (startRemainder m a f s (v + w)) (endRemainder m b s v) (endRemainder m c s w)
 
--- The numbers of a share are so small that three of them can be added.
-pub record Few (x : Share) : Type 0 where
-  pub gains : x .gains ≤ 17179869184
-  pub losses : x .losses ≤ 17179869184
+-- The numbers of a share are at most m.
+pub record Few (m : ℕ) (x : Share) : Type 0 where
+  pub gains : x .gains ≤ m
+  pub losses : x .losses ≤ m
 
 -- r is the share x, and its numbers are at most m.
 pub record ShareIs (m : ℕ) (x r : Share) : Type 0 where

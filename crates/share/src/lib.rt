@@ -84,21 +84,26 @@ fn excess(counts: bool, a: u64, b: u64) -> u64
     a - b
 }
 
-// The share of a state that joins the sum n times: y is the sum of its two weights, plus 20,000.
-fn joined(allowed: bool, n: u16, y: u64) -> Share
-    requires { ⌜ y < 131072 ⌝ }
-    ensures { λ x. ⌜ ShareIs 8589934592 (joinedOf allowed n y) x ⌝ }
+// The share of a state that joins the sum n times: y is what joins, plus b.
+fn joined(allowed: bool, n: u16, b: u64, y: u64) -> Share
+    requires { ⌜ b < 17179869184 ⌝ }
+    requires { ⌜ y < 17179869184 ⌝ }
+    ensures { λ x. ⌜ ShareIs (65536 * (b + y)) (joinedOf allowed n b y) x ⌝ }
 {
-    if 20000 < y {
+    if b < y {
+        let over = y - b;
+        let losses = (n as u64) * over;
         return Share {
             allowed,
             gains: 0,
-            losses: (n as u64) * (y - 20000),
+            losses,
         };
     }
+    let under = b - y;
+    let gains = (n as u64) * under;
     Share {
         allowed,
-        gains: (n as u64) * (20000 - y),
+        gains,
         losses: 0,
     }
 }
@@ -130,21 +135,23 @@ fn known_agents(known: Known, fixed: Fixed, i: usize) -> u16
     fixed.agents
 }
 
-// The share of state i at the start, by sums.
-fn start_share(known: Known, fixed: Fixed, i: usize, y: u64) -> Share
-    requires { ⌜ y < 131072 ⌝ }
-    ensures { λ x. ⌜ ShareIs 8589934592 (startShare known fixed i y) x ⌝ }
+// The share of state i at the start, by sums: y is what joins the upper sum, plus b.
+pub fn start_share(known: Known, fixed: Fixed, i: usize, b: u64, y: u64) -> Share
+    requires { ⌜ b < 17179869184 ⌝ }
+    requires { ⌜ y < 17179869184 ⌝ }
+    ensures { λ x. ⌜ ShareIs (65536 * (b + y)) (startShare known fixed i b y) x ⌝ }
 {
     let n = times(known, fixed, i);
     joined(
-        bits::has(known.absent, i) | (fixed.only | (y <= 20000)),
+        bits::has(known.absent, i) | (fixed.only | (y <= b)),
         n,
+        b,
         y,
     )
 }
 
 // The share of state i at an end, by sums: y is its weight there, plus 10,000.
-fn end_share(known: Known, i: usize, y: u64) -> Share
+pub fn end_share(known: Known, i: usize, y: u64) -> Share
     ensures { λ x. ⌜ ShareIs (20000 + y) (endShare known i y) x ⌝ }
 {
     if 10000 <= y {
@@ -171,11 +178,16 @@ fn end_share(known: Known, i: usize, y: u64) -> Share
 // The share of state i at the start, by remainders.
 fn start_remainder(m: u64, known: Known, fixed: Fixed, i: usize, y: u64) -> Share
     requires { ⌜ y < 131072 ⌝ }
-    ensures { λ x. ⌜ ShareIs 8589934592 (startRemainder m known fixed i y) x ⌝ }
+    ensures { λ x. ⌜ ShareIs (65536 * (20000 + y)) (startRemainder m known fixed i y) x ⌝ }
 {
     let vanishes = same_modulo(m, y, 20000);
     let n = known_agents(known, fixed, i);
-    joined(bits::has(known.absent, i) | (fixed.only | vanishes), n, y)
+    joined(
+        bits::has(known.absent, i) | (fixed.only | vanishes),
+        n,
+        20000,
+        y,
+    )
 }
 
 // The share of state i at an end, by remainders. It counts where the state is known to hold exactly one agent.
@@ -193,7 +205,7 @@ fn end_remainder(m: u64, known: Known, i: usize, y: u64) -> Share
 
 // The shares at the start and at the two ends together.
 fn together(a: Share, b: Share, c: Share) -> Share
-    requires { ⌜ Few a × Few b × Few c ⌝ }
+    requires { ⌜ Few 17179869184 a × Few 17179869184 b × Few 17179869184 c ⌝ }
     ensures { λ x. ⌜ ShareIs 68719476736 (sumOf a b c) x ⌝ }
 {
     Share {
@@ -222,7 +234,7 @@ pub fn share_by(
     let both = v + w;
     match by {
         Closing::BySums => {
-            let a = start_share(start, fixed, i, both);
+            let a = start_share(start, fixed, i, 20000, both);
             together(a, end_share(first, i, v), end_share(second, i, w))
         }
         Closing::ByRemainders(m) => {

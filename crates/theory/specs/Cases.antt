@@ -8,6 +8,7 @@ pub mod Tree
 pub mod Remainder
 pub mod Fixed
 pub mod Potential
+pub mod Sheet
 pub mod Machine
 pub mod Starts
 pub mod Tables

@@ -82,24 +82,23 @@ unfoldable pub signedSum : ℕ → (ℕ → ℤ) → ℤ
 signedSum zero f = pos 0
 signedSum (suc n) f = signedSum n f +ℤ f n
 
--- y k s is the weight of state s at end k.
-module _ (P : Protocol) (F : Facts) (y : ℕ → ℕ → ℤ) where
-  -- The upper sum, of the states not absent at the start: where a state has fixed agents their number times y1 + y2; else y1 +
-  -- y2 where the state is present.
-  unfoldable pub upperSum : ℤ
-  upperSum =
+module _ (P : Protocol) (F : Facts) where
+  -- The upper sum, v s being y1 + y2 of state s, of the states not absent at the start: where a state has fixed agents their
+  -- number times v; else v where the state is present.
+  unfoldable pub upperSum : (ℕ → ℤ) → ℤ
+  upperSum v =
       signedSum (P .states)
       (λ s.
       cond (F .absent 0 s) (pos 0)
-      (cond (ltb 0 (P .fixed s)) (pos (P .fixed s) *ℤ (y 1 s +ℤ y 2 s)) (cond (F .present 0 s) (y 1 s +ℤ y 2 s) (pos 0))))
+      (cond (ltb 0 (P .fixed s)) (pos (P .fixed s) *ℤ v s) (cond (F .present 0 s) (v s) (pos 0))))
 
-  -- What end k adds to the lower sum: of the states not absent there, a weight of 0 or more where the state is present,
-  -- and a negative weight.
-  unfoldable pub lowerSum : ℕ → ℤ
-  lowerSum k = signedSum (P .states) (λ s. cond (not (F .absent k s) && (F .present k s || ltZ (y k s) (pos 0))) (y k s) (pos 0))
+  -- What end k adds to the lower sum, y s being the weight of state s there: of the states not absent, a weight of 0 or more
+  -- where the state is present, and a negative weight.
+  unfoldable pub lowerSum : ℕ → (ℕ → ℤ) → ℤ
+  lowerSum k y = signedSum (P .states) (λ s. cond (not (F .absent k s) && (F .present k s || ltZ (y s) (pos 0))) (y s) (pos 0))
 
-  -- The leaf rule.
-  pub record LeafRule : Type 0 where
+  -- The leaf rule, y k s being the weight of state s at end k.
+  pub record LeafRule (y : ℕ → ℕ → ℤ) : Type 0 where
     -- For every rule not unused in run k, yk of the after pair is at most yk of the before pair.
     pub rules : (k : ℕ) → 1 ≤ k → k ≤ 2 → (r : ℕ) → r < P .rules → F .unused k r ≡ false → (y k (P .p′ r) +ℤ y k (P .q′ r)) ≤ℤ (y k (P .p r) +ℤ y k (P .q r))
     -- For every state not absent at the start, y1 + y2 is at most 0, if the state is an input or has no fixed agents.
@@ -107,4 +106,4 @@ module _ (P : Protocol) (F : Facts) (y : ℕ → ℕ → ℤ) where
     -- For each end k and each state not absent there, a negative weight needs at most one there.
     pub ends : (k : ℕ) → 1 ≤ k → k ≤ 2 → (s : ℕ) → s < P .states → F .absent k s ≡ false → y k s <ℤ pos 0 → F .atMostOne k s ≡ true
     -- The lower sum exceeds the upper sum.
-    pub sums : upperSum <ℤ (lowerSum 1 +ℤ lowerSum 2)
+    pub sums : upperSum (λ s. y 1 s +ℤ y 2 s) <ℤ (lowerSum 1 (y 1) +ℤ lowerSum 2 (y 2))

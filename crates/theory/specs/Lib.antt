@@ -14,6 +14,7 @@ pub mod Remainder
 pub mod Tree
 pub mod Subtree
 pub mod Potential
+pub mod Sheet
 pub mod Starts
 pub mod Machine
 pub mod Claims

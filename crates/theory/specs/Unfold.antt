@@ -10,10 +10,12 @@ use Rattle.theory.specs.Pairs.{pairsBetween, pairsAmong, rulesBetween}
 use Rattle.theory.specs.Ladder.{isLower, fits, handoverAt, handover, enabledIn, active, lowest, layered}
 use Rattle.theory.specs.Ladder.{spread, lowersAt, lowering, spreads, spreadsAbove, rankAt, rank}
 use Rattle.theory.specs.Facts.{extend, withAbsent, withPresent, withAtMostOne, withUnused, fresh}
-use Rattle.theory.specs.Leaf.{extra, spare, nonIncreasing, startFits, times, endFits, surplus, shortfall, leafCloses}
+use Rattle.theory.specs.Leaf.{extra, spare, nonIncreasing, startFits, times, endFits, surplus, shortfall, leafCloses, signedSum}
 use Rattle.theory.specs.Remainder.{congruent, exactlyOne, known, conserved, startVanishes, endVanishes, excess, deficit, remainderCloses}
 use Rattle.theory.specs.Tree.{setSize, widestBelow, widest, checked, refusalNumber, forest, takes, puts, touches, follows, isTrap, isSiphon}
 use Rattle.theory.specs.Tree.{within, isSet, isModulus, children, disagreement, isRun, ground, byKind, node, treeAt, treeAnswer}
+use Rattle.theory.specs.Sheet.{atLeast, atMost, sheetCloses, counterexample, sheetAnswer, weighedSum}
+use Rattle.theory.specs.Sheet.Claimed.{isReached, claimed}
 use Rattle.theory.specs.Starts.{eachDown, startsOver, binomial, inputsOf, fixedTotal, starts}
 use Rattle.theory.specs.Machine.{isRefused, meetingsOf, isSized, isWithin, admitted, admit, chosen, runNumbers}
 use Rattle.theory.specs.Machine.{stepReply, runReply, reply, adds, countsAfter, numbersOf, restNumbers, restOf}
@@ -48,6 +50,11 @@ unfoldable pub walking : ℕ
 unfolding closing member setSize widestBelow widest checked refusalNumber forest takes puts touches follows isTrap isSiphon
     within isSet isModulus children disagreement isRun ground byKind node treeAt treeAnswer
 walking = 0
+
+-- Claim sheets.
+unfoldable pub claiming : ℕ
+unfolding walking weigh isReached atLeast atMost claimed sheetCloses counterexample sheetAnswer signedSum weighedSum
+claiming = 0
 
 -- The machine's calls.
 unfoldable pub calling : ℕ

@@ -1,7 +1,7 @@
--- What the functions on a tree answer, beside theory's walk: what the enum Walk stands for, the aim of a docket's tree,
+-- What the functions on a tree answer, beside theory's walk: what the enum Walk stands for, what a tree aims at,
 -- the size of a node's set.
 use mathlib.Core.Path.{_≡_}
-use mathlib.Core.Bool.{true, false, cond, _||_}
+use mathlib.Core.Bool.{Bool, cond, _||_}
 use mathlib.Core.List.{List}
 use Prim.Native.Nat.{ℕ, _/_, _%_}
 use lib.Dec.{eqb, ltb}
@@ -10,6 +10,7 @@ use Rattle.format.specs.Format.{nodeKind, nodeSet}
 use Rattle.format.specs.declared.Sizes.{Sizes}
 use Rattle.shape.specs.Shape.{refusal}
 use Rattle.shape.specs.declared.Refusal.{Refusal}
+use Rattle.threshold.specs.declared.Leaves.{Leaves}
 use Rattle.node.specs.Code.{AimFits}
 use Rattle.node.specs.declared.Aim.{Aim}
 use Rattle.tree.specs.declared.Walk.{Walk}
@@ -30,12 +31,13 @@ abbrev pub refusalOf : Walk → Refusal
 refusalOf (Next j) = refusal 0 0
 refusalOf (Refused r) = r
 
--- The aim of a docket's tree: run 1 ends with a state of output 0, and run 2 with one of output 1.
-pub record Disagrees (z : Sizes) (states : List ℕ) (a : Aim) : Type 0 where
+-- The aim a speaks of k runs that end with a state of the outputs u and v, and whose says whose leaves the tree has.
+pub record AimsAt (z : Sizes) (states : List ℕ) (k : ℕ) (u v : Bool) (whose : Leaves) (a : Aim) : Type 0 where
   pub fits : AimFits z states a
-  pub runs : a .runs ≡ 2
-  pub first : a .first ≡ false
-  pub second : a .second ≡ true
+  pub runs : a .runs ≡ k
+  pub first : a .first ≡ u
+  pub second : a .second ≡ v
+  pub leaves : a .whose ≡ whose
 
 -- How many states the set of node i names; 0 where its kind names none.
 unfoldable pub setSizeAt : List ℕ → ℕ → ℕ

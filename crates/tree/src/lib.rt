@@ -8,13 +8,14 @@ ghost use Rattle.format.specs.Format.{protocolOf, treeOf, weightsOf};
 ghost use Rattle.facts.specs.Code.{factsOf};
 ghost use Rattle.shape.specs.Code.{SoundRules};
 ghost use Rattle.node.specs.Code.{assumptionOf, AimFits};
-ghost use Rattle.tree.specs.Code.{walkedOf, walkedIn, refusalOf, Disagrees, setSizeAt};
+ghost use Rattle.tree.specs.Code.{walkedOf, walkedIn, refusalOf, AimsAt, setSizeAt};
 use facts::Facts;
 use format::Flag;
 use format::Sizes;
 use node::Aim;
 use node::Outcome;
 use shape::Refusal;
+use threshold::Leaves;
 
 // Where a walk comes to: the next node, or a refusal.
 pub enum Walk {
@@ -65,11 +66,12 @@ fn walk_of(code: u32) -> Walk
 }
 
 // Node `start` and all below it, on the facts given, where the nodes may be so many deep. The loop goes from a node to its
-// last child; a first child of two has a walk of its own.
+// last child; a first child of two has a walk of its own. The numbers are those of a claim sheet; a docket has none.
 fn descend(
     states: &[u8],
     rules: &[u8],
     nodes: &[u8],
+    numbers: &[u8],
     leaves: &[u8],
     z: Sizes,
     aim: Aim,
@@ -80,7 +82,7 @@ fn descend(
     requires { ⌜ SoundRules z (now rules) ⌝ }
     requires { ⌜ AimFits z (now states) aim ⌝ }
     ensures { λ c. ⌜ walkedIn c ≡ treeAt (protocolOf z (now (states .entry)) (now (rules .entry)))
-        (assumptionOf (protocolOf z (now (states .entry)) (now (rules .entry))) (weightsOf z (now (leaves .entry))) aim)
+        (assumptionOf (protocolOf z (now (states .entry)) (now (rules .entry))) z (now (numbers .entry)) (now (leaves .entry)) aim)
         (treeOf z (now (nodes .entry))) depth (factsOf given) start ⌝ }
 {
     let mut left = depth;
@@ -90,7 +92,7 @@ fn descend(
         if z.nodes <= i {
             return refusal_code(12, z.nodes);
         }
-        let step = node::node_step(states, rules, nodes, leaves, z, aim, facts, i);
+        let step = node::node_step(states, rules, nodes, numbers, leaves, z, aim, facts, i);
         let outcome = step.outcome;
         let first = step.first;
         let second = step.second;
@@ -108,7 +110,18 @@ fn descend(
                 i = next;
             }
             Outcome::Children => {
-                let below = descend(states, rules, nodes, leaves, z, aim, left, first, next);
+                let below = descend(
+                    states,
+                    rules,
+                    nodes,
+                    numbers,
+                    leaves,
+                    z,
+                    aim,
+                    left,
+                    first,
+                    next,
+                );
                 if 65536 <= below {
                     return below;
                 }
@@ -131,15 +144,34 @@ fn root_facts(states: &[u8], rules: &[u8], z: Sizes) -> Facts
 }
 
 // The whole tree, which refutes what the aim assumes: accepted (Next), or the first refusal. A node left over is refused.
-fn walk_tree(states: &[u8], rules: &[u8], nodes: &[u8], leaves: &[u8], z: Sizes, aim: Aim) -> Walk
+pub fn walk_tree(
+    states: &[u8],
+    rules: &[u8],
+    nodes: &[u8],
+    numbers: &[u8],
+    leaves: &[u8],
+    z: Sizes,
+    aim: Aim,
+) -> Walk
     requires { ⌜ SoundRules z (now rules) ⌝ }
     requires { ⌜ AimFits z (now states) aim ⌝ }
     ensures { λ w. ⌜ walkedOf w ≡ treeAnswer (protocolOf z (now (states .entry)) (now (rules .entry)))
-        (assumptionOf (protocolOf z (now (states .entry)) (now (rules .entry))) (weightsOf z (now (leaves .entry))) aim)
+        (assumptionOf (protocolOf z (now (states .entry)) (now (rules .entry))) z (now (numbers .entry)) (now (leaves .entry)) aim)
         (treeOf z (now (nodes .entry))) ⌝ }
 {
     let facts = root_facts(states, rules, z);
-    let code = descend(states, rules, nodes, leaves, z, aim, Facts::DEPTH, facts, 0);
+    let code = descend(
+        states,
+        rules,
+        nodes,
+        numbers,
+        leaves,
+        z,
+        aim,
+        Facts::DEPTH,
+        facts,
+        0,
+    );
     let end = walk_of(code);
     let Walk::Next(j) = end else {
         return end;
@@ -151,31 +183,34 @@ fn walk_tree(states: &[u8], rules: &[u8], nodes: &[u8], leaves: &[u8], z: Sizes,
     refuse(12, j)
 }
 
-// What the tree of a docket refutes: run 1 ends with a state of output 0, and run 2 with one of output 1.
-fn disagreement_aim(states: &[u8], z: Sizes) -> Aim
-    ensures { λ a. ⌜ Disagrees z (now (states .entry)) a ⌝ }
+// What a tree refutes: so many runs, that end with a state of the outputs given; whose says whose leaves the tree has.
+pub fn aim_at(states: &[u8], z: Sizes, runs: usize, first: bool, second: bool, whose: Leaves) -> Aim
+    requires { ⌜ runs ≤ 2 ⌝ }
+    ensures { λ a. ⌜ AimsAt z (now (states .entry)) runs first second whose a ⌝ }
 {
     let ones = format::flag_set(states, z, Flag::Output);
     let all = bits::full(z.states as usize);
     let zeros = bits::without(all, ones);
     Aim {
-        runs: 2,
-        first: false,
-        second: true,
+        runs,
+        first,
+        second,
         zeros,
         ones,
+        whose,
     }
 }
 
-// Tests 12 and 13: the whole tree of a docket.
+// Tests 12 and 13: the whole tree of a docket, which refutes that run 1 ends with a state of output 0 and run 2 with one of
+// output 1. A docket has no numbers: what is lent for them is not read.
 pub fn check_tree(states: &[u8], rules: &[u8], nodes: &[u8], leaves: &[u8], z: Sizes) -> Walk
     requires { ⌜ SoundRules z (now rules) ⌝ }
     ensures { λ w. ⌜ walkedOf w ≡ treeAnswer (protocolOf z (now (states .entry)) (now (rules .entry)))
         (disagreement (protocolOf z (now (states .entry)) (now (rules .entry))) (weightsOf z (now (leaves .entry))))
         (treeOf z (now (nodes .entry))) ⌝ }
 {
-    let aim = disagreement_aim(states, z);
-    walk_tree(states, rules, nodes, leaves, z, aim)
+    let aim = aim_at(states, z, 2, false, true, Leaves::OfDocket);
+    walk_tree(states, rules, nodes, leaves, leaves, z, aim)
 }
 
 // How many states the set of node i names; 0 where its kind names none.

@@ -6,6 +6,7 @@ use Rattle.claims.specs.OfPairs.Proved.{of-pairs}
 use Rattle.claims.specs.OfVersions.Proved.{of-versions}
 use Rattle.claims.specs.OfPage.Proved.{of-page}
 use Rattle.claims.specs.OfTotals.Proved.{of-totals}
+use Rattle.claims.specs.OfSheet.Proved.{of-sheet}
 use Rattle.claims.specs.Claims.{Claims}
 
 pub claims : Claims
@@ -17,4 +18,5 @@ claims = record {
   of-versions = of-versions;
   of-page = of-page;
   of-totals = of-totals;
+  of-sheet = of-sheet;
 }

@@ -8,7 +8,7 @@ use Rattle.leaf.specs.Code.Laws.{Added, adding, closings}
 
 abbrev Inv-loop : tie.InvT-loop
 Inv-loop by states rules leaves z l start first second gains₀ losses₀ s₀ gains losses s =
-    (s ≤ z .states) × Added (shareOf by z states leaves l start first second) s gains losses
+    (s ≤ z .states) × Added 68719476736 (shareOf by z states leaves l start first second) s gains losses
 
 abbrev μ-loop : tie.MeasureT-loop
 μ-loop by states rules leaves z l start first second gains₀ losses₀ s₀ gains losses s = z .states - s

@@ -316,17 +316,17 @@ pub ruleset sharing = (nothing-shared, shared)
 
 -- ---- The states below i
 
--- The facts allow the weights of the states below i, and gains and losses are the sums of theirs.
-pub record Added (f : ℕ → Share) (i gains losses : ℕ) : Type 0 where
+-- The facts allow the weights of the states below i, and gains and losses are the sums of theirs, each at most m.
+pub record Added (m : ℕ) (f : ℕ → Share) (i gains losses : ℕ) : Type 0 where
   pub allowed : (k : ℕ) → k < i → f k .allowed ≡ true
   pub gains-are : gains ≡ sumBelow i (λ k. f k .gains)
-  pub gains-most : gains ≤ 68719476736 * i
+  pub gains-most : gains ≤ m * i
   pub losses-are : losses ≡ sumBelow i (λ k. f k .losses)
-  pub losses-most : losses ≤ 68719476736 * i
+  pub losses-most : losses ≤ m * i
 
-pub added-none : (f : ℕ → Share) → Added f 0 0 0
+pub added-none : (m : ℕ) (f : ℕ → Share) → Added m f 0 0 0
 unfolding sumBelow
-added-none f =
+added-none m f =
     record {
       allowed = below-none (λ k. f k .allowed ≡ true);
       gains-are = refl;
@@ -335,10 +335,10 @@ added-none f =
       losses-most = omega arith;
     }
 
-pub added-more : (f : ℕ → Share) (i g l : ℕ) (x : Share) → Added f i g l → ShareIs 68719476736 (f i) x → not (x .allowed) ≡ false
-    → Added f (i + 1) (g + x .gains) (l + x .losses)
+pub added-more : (m : ℕ) (f : ℕ → Share) (i g l : ℕ) (x : Share) → Added m f i g l → ShareIs m (f i) x → not (x .allowed) ≡ false
+    → Added m f (i + 1) (g + x .gains) (l + x .losses)
 unfolding sumBelow
-added-more f i g l x b h t =
+added-more m f i g l x b h t =
     let e : x .gains ≡ f i .gains = ap (λ (y : Share). y .gains) (h .is) in
     let d : x .losses ≡ f i .losses = ap (λ (y : Share). y .losses) (h .is) in
     record {
@@ -389,7 +389,7 @@ module _ (by : Closing) (z : Sizes) (states rules leaves : List ℕ) (l : ℕ) (
 
     -- All weights are allowed, and the sums are compared.
     pub sums-compared : (i g m : ℕ) (t u y : Bool) → t ≡ kept 0 → not t ≡ false → u ≡ kept 1 → not u ≡ false → i ≤ z .states → z .states ≤ i
-        → Added shares i g m → y ≡ relatesBy by g m → not y ≡ closes
+        → Added 68719476736 shares i g m → y ≡ relatesBy by g m → not y ≡ closes
     sums-compared i g m t u y et ht eu hu h k d v =
         let n : i ≡ z .states = omega arith in
         let f = all-intro (z .states) (λ s. shares s .allowed) (λ s j. d .allowed s (omega arith)) in

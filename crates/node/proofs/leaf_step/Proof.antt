@@ -4,8 +4,8 @@ use borrow.Author.Needs.{needs}
 use Rattle.node.proofs.leaf_step.Statement.{statement}
 use Rattle.node.proofs.leaf_step.Tie as tie
 
-leaf-closes-requires : tie.Need-leaf-closes-requires
-leaf-closes-requires c κs = search needs
+leaf-holds-requires : tie.Need-leaf-holds-requires
+leaf-holds-requires c κs = search needs
 
 judge-requires : tie.Need-judge-requires
 judge-requires c κs = search needs
@@ -14,4 +14,4 @@ returns : tie.Need-returns
 returns c = search (leaf-turn, needs)
 
 pub leaf-step-spec : {M : Type 1} → statement M
-leaf-step-spec = tie.close (tie.spec leaf-closes-requires judge-requires returns)
+leaf-step-spec = tie.close (tie.spec leaf-holds-requires judge-requires returns)

@@ -16,21 +16,18 @@ use Rattle.theory.specs.Below.{allBelow}
 use Rattle.theory.specs.Below.Laws.{all-same, all-intro, all-elim}
 use Rattle.theory.specs.Protocol.{Protocol}
 use Rattle.theory.specs.Facts.{Facts, withAbsent, withPresent, withAtMostOne, withUnused}
-use Rattle.theory.specs.Leaf.{leafCloses}
-use Rattle.theory.specs.Remainder.{remainderCloses}
 use Rattle.theory.specs.Tree as tree
 use Rattle.theory.specs.Tree.{Assumption, leaf, outputAbsent, contradiction, disabled, caseSplit, trap, siphon, remainder, bad, checked}
-use Rattle.theory.specs.Tree.{takes, puts, touches, follows, isTrap, isSiphon, within, isSet, isModulus, isRun, children, ground, byKind, node, refusalNumber}
+use Rattle.theory.specs.Tree.{takes, puts, touches, follows, isTrap, isSiphon, within, isSet, isRun, children, ground, byKind, node, refusalNumber}
 use Rattle.bits.specs.Code.{singleOf, fullOf, amongOf, unionOf, withIf, withoutOf, subsetOf, inWords, inWord, firstWords}
 use Rattle.bits.specs.Code.Laws.{member-above, member-small, all-wider, subset-states, among-none, among-more}
 use Rattle.bits.specs.Code.Laws.{words-start, words-more, words-end}
-use Rattle.format.specs.Format.{isOutput, ruleP, ruleQ, protocolOf, treeOf, weightsOf}
+use Rattle.format.specs.Format.{isOutput, ruleP, ruleQ, protocolOf, treeOf}
 use Rattle.format.specs.declared.Sizes.{Sizes}
 use Rattle.shape.specs.Code.{SoundRules}
 use Rattle.facts.specs.Code.{isEnd, statesAt, onlyIf}
 use Rattle.facts.specs.Code.Laws.{within-party, within-ends, within-states, within-end-states}
-use Rattle.share.specs.Code.{closesBy}
-use Rattle.share.specs.declared.Closing.the-variants.{BySums, ByRemainders}
+use Rattle.threshold.specs.Code.{closesFor, closesModuloFor}
 use Rattle.node.specs.Code.{outputAt, assumedWord, assumptionOf, AimFits, nodeOf, rulesIn, FlowAt, breakingOf, isTrapOf}
 use Rattle.node.specs.Code.{Turn, refuse, check, judged, nodeTurn, turnAt, leafFields, runFields, stateFields, ruleFields, setFields, remainderFields}
 use Rattle.node.specs.Code.{outputGone, NamesRule, disabledChildren, NamesSet, partyIf, setGround, setChild, goneOf}
@@ -352,14 +349,11 @@ party-lt false k m l h = l
 
 module _ (z : Sizes) (n : Node) (F : Facts) (x : Turn) where
   -- Kinds 0 and 7.
-  pub leaf-turn : (P : Protocol) (w : ℕ → ℕ → ℕ) (b t : Bool) → t ≡ closesBy P BySums F w → x ≡ judged b t [] → x ≡ judged b (leafCloses P F w) []
-  unfolding closesBy
-  leaf-turn P w b t e h = h ∙ ap (λ (g : Bool). judged b g []) e
+  pub leaf-turn : (b t g : Bool) → t ≡ g → x ≡ judged b t [] → x ≡ judged b g []
+  leaf-turn b t g e h = h ∙ ap (λ (y : Bool). judged b y []) e
 
-  pub remainder-turn : (P : Protocol) (m : ℕ) (w : ℕ → ℕ → ℕ) (b t : Bool) → t ≡ closesBy P (ByRemainders m) F w → x ≡ judged b t []
-      → x ≡ judged b (remainderCloses P m F w) []
-  unfolding closesBy
-  remainder-turn P m w b t e h = h ∙ ap (λ (g : Bool). judged b g []) e
+  pub remainder-turn : (b m h t g : Bool) → m ≡ h → t ≡ g → x ≡ judged (b && m) t [] → x ≡ judged (b && h) g []
+  remainder-turn b m h t g d e j = j ∙ rw (d, e)
 
   -- Kind 1.
   pub output-turn : (states : List ℕ) (a : Aim) (w v : ℕ) (t : Bool) → z .states ≤ 64 → AimFits z states a → w ≡ assumedWord a (n .party)
@@ -453,16 +447,16 @@ unfolding nodeTurn checked check ground children refusalNumber
 turn-checked P H F true m e = rw e
 turn-checked P H F false m e = refl
 
-module _ (z : Sizes) (states rules nodes leaves : List ℕ) (aim : Aim) (F : Facts) (i : ℕ) (n : Node) (e : n ≡ nodeOf nodes i) (x : Turn) where
+module _ (z : Sizes) (states rules nodes numbers leaves : List ℕ) (aim : Aim) (F : Facts) (i : ℕ) (n : Node) (e : n ≡ nodeOf nodes i) (x : Turn) where
   abbrev P : Protocol
   P = protocolOf z states rules
 
   abbrev H : Assumption
-  H = assumptionOf P (weightsOf z leaves) aim
+  H = assumptionOf P z numbers leaves aim
 
   -- What node i comes to.
   abbrev here : Turn
-  here = turnAt z states rules nodes leaves aim F i
+  here = turnAt z states rules nodes numbers leaves aim F i
 
   -- The node with the fields of m, and kind k.
   abbrev of-kind : Node → ℕ → tree.Node
@@ -472,7 +466,7 @@ module _ (z : Sizes) (states rules nodes leaves : List ℕ) (aim : Aim) (F : Fac
   unfolding turnAt node
   by-kind k h d = d ∙ ap (λ (j : ℕ). nodeTurn P H F (of-kind n j)) (sym h) ∙ ap (λ (m : Node). nodeTurn P H F (of-kind m (m .kind))) e
 
-  pub kind-leaf : n .kind ≡ 0 → x ≡ judged (leafFields z n) (leafCloses P F (weightsOf z leaves (n .argument))) [] → x ≡ here
+  pub kind-leaf : n .kind ≡ 0 → x ≡ judged (leafFields z n) (closesFor P z numbers leaves (aim .whose) F (n .argument)) [] → x ≡ here
   unfolding byKind ground children refusalNumber
   kind-leaf k d = by-kind 0 k (d ∙ turn-checked P H F _ (leaf (n .argument)) refl)
 
@@ -507,8 +501,8 @@ module _ (z : Sizes) (states rules nodes leaves : List ℕ) (aim : Aim) (F : Fac
   kind-siphon k d = by-kind 6 k (d ∙ turn-checked P H F _ (siphon (n .party) (n .set)) refl)
 
   pub kind-remainder : n .kind ≡ 7
-      → x ≡ judged (remainderFields z n) (remainderCloses P (n .set) F (weightsOf z leaves (n .argument))) [] → x ≡ here
-  unfolding byKind isModulus ground children refusalNumber
+      → x ≡ judged (remainderFields z (aim .whose) n) (closesModuloFor P z leaves (aim .whose) (n .set) F (n .argument)) [] → x ≡ here
+  unfolding byKind ground children refusalNumber
   kind-remainder k d = by-kind 7 k (d ∙ turn-checked P H F _ (remainder (n .argument) (n .set)) refl)
 
   -- Kinds 5 and 6: below 7 and none of the kinds before them.

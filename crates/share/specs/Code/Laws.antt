@@ -99,23 +99,21 @@ nothing true m n h = omega arith
 nothing false m n h = omega arith
 
 -- A state that joins a sum n times.
-module _ (t : Bool) (n y : ℕ) (f : n < 65536) (g : y < 131072) where
-  pub joined-small : (m : ℕ) → m < 131072 → n * m ≤ 8589934592
+module _ (t : Bool) (n b y : ℕ) (f : n < 65536) where
+  pub joined-small : (m : ℕ) → m ≤ b + y → n * m ≤ 65536 * (b + y)
   joined-small m l =
       let n′ : n ≤ 65536 = omega arith in
-      let m′ : m ≤ 131072 = omega arith in
-      let le : n * m ≤ 65536 * 131072 = mul-le-mul n′ m′ in
-      omega arith
+      mul-le-mul n′ l
 
-  pub joined-over : 20000 < y → ShareIs 8589934592 (joinedOf t n y) (share t 0 (n * (y - 20000)))
+  pub joined-over : b < y → ShareIs (65536 * (b + y)) (joinedOf t n b y) (share t 0 (n * (y - b)))
   joined-over h =
-      let e : 20000 - y ≡ 0 = omega arith in
-      record { is = rw (e, mul-zero n); gains-most = omega arith; losses-most = joined-small (y - 20000) (omega arith) }
+      let e : b - y ≡ 0 = omega arith in
+      record { is = rw (e, mul-zero n); gains-most = omega arith; losses-most = joined-small (y - b) (omega arith) }
 
-  pub joined-under : y ≤ 20000 → ShareIs 8589934592 (joinedOf t n y) (share t (n * (20000 - y)) 0)
+  pub joined-under : y ≤ b → ShareIs (65536 * (b + y)) (joinedOf t n b y) (share t (n * (b - y)) 0)
   joined-under h =
-      let e : y - 20000 ≡ 0 = omega arith in
-      record { is = rw (e, mul-zero n); gains-most = joined-small (20000 - y) (omega arith); losses-most = omega arith }
+      let e : y - b ≡ 0 = omega arith in
+      record { is = rw (e, mul-zero n); gains-most = joined-small (b - y) (omega arith); losses-most = omega arith }
 
 pub ruleset joining = (joined-over, joined-under)
 
@@ -149,10 +147,10 @@ pub ruleset counting = (times-none, times-once, times-absent, times-fixed, known
 
 module _ (k : Known) (s y : ℕ) where
   -- The state joins n times, and its share is x.
-  pub start-is : (f : Fixed) (b n : ℕ) (t : Bool) (x : Share) → t ≡ member (k .absent) s → n ≡ timesOf k f s
-      → ShareIs b (joinedOf (t || (f .only || leb y 20000)) n y) x → ShareIs b (startShare k f s y) x
+  pub start-is : (f : Fixed) (m b n : ℕ) (t : Bool) (x : Share) → t ≡ member (k .absent) s → n ≡ timesOf k f s
+      → ShareIs m (joinedOf (t || (f .only || leb y b)) n b y) x → ShareIs m (startShare k f s b y) x
   unfolding startShare
-  start-is f b n t x ht hn h = rw (← ht, ← hn) h
+  start-is f m b n t x ht hn h = rw (← ht, ← hn) h
 
   pub end-over : (m : Bool) (x : ℕ) → 10000 ≤ y → m ≡ member (k .present) s → Value (y + 1) (bit m * (y - 10000)) x
       → ShareIs (20000 + y) (endShare k s y) (share true x 0)
@@ -193,7 +191,7 @@ module _ (k : Known) (s y : ℕ) where
       }
 
   pub remainder-start : (f : Fixed) (b m n : ℕ) (t v : Bool) (x : Share) → t ≡ member (k .absent) s → v ≡ congruent m y 20000 → n ≡ knownOf k f s
-      → ShareIs b (joinedOf (t || (f .only || v)) n y) x → ShareIs b (startRemainder m k f s y) x
+      → ShareIs b (joinedOf (t || (f .only || v)) n 20000 y) x → ShareIs b (startRemainder m k f s y) x
   unfolding startRemainder
   remainder-start f b m n t v x ht hv hn h = rw (← ht, ← hv, ← hn) h
 
@@ -212,7 +210,7 @@ pub ruleset sharing = (start-is, end-over, end-absent, end-below, remainder-star
 
 -- The shares p, q, r at the start and at the ends are put together in t.
 module _ (by : Closing) (f : Fixed) (a b c : Known) (s x y i j k : ℕ) (p q r t : Share) (h : ShareIs 68719476736 (sumOf p q r) t) where
-  pub share-sums : by ≡ BySums → ShareIs i (startShare a f s (x + y)) p → ShareIs j (endShare b s x) q → ShareIs k (endShare c s y) r
+  pub share-sums : by ≡ BySums → ShareIs i (startShare a f s 20000 (x + y)) p → ShareIs j (endShare b s x) q → ShareIs k (endShare c s y) r
       → ShareIs 68719476736 (shareBy by f a b c s x y) t
   unfolding shareBy
   share-sums e hp hq hr = rw (e, ← hp .is, ← hq .is, ← hr .is) h
@@ -259,7 +257,7 @@ exchange true true c d = refl
 exchange true false c d = sym (and-false c)
 exchange false b c d = refl
 
-all-and : (n : ℕ) (f g : ℕ → Bool) → allBelow n (λ k. f k && g k) ≡ (allBelow n f && allBelow n g)
+pub all-and : (n : ℕ) (f g : ℕ → Bool) → allBelow n (λ k. f k && g k) ≡ (allBelow n f && allBelow n g)
 unfolding allBelow
 all-and zero f g = refl
 all-and (suc n) f g = rw (all-and n f g) (exchange (f n) (g n) (allBelow n f) (allBelow n g))

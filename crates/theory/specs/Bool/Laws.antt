@@ -26,18 +26,26 @@ pub and-elim : (a b : Bool) → a && b ≡ true → (a ≡ true) × (b ≡ true)
 and-elim true b h = (refl, h)
 and-elim false b h = absurd (false≢true h)
 
--- Six tests in a row.
+-- Four tests in a row, and six.
+pub all-four : (a b c d : Bool) → (a && b && c && d ≡ true) ↔ ((a ≡ true) × (b ≡ true) × (c ≡ true) × (d ≡ true))
+all-four a b c d = (
+  λ h.
+      let t = and-elim (a && b && c) d h in
+      let u = and-elim (a && b) c (t .0) in
+      let v = and-elim a b (u .0) in
+      (v .0, v .1, u .1, t .1),
+  λ t. and-intro _ _ (and-intro _ _ (and-intro _ _ (t .0) (t .1)) (t .2)) (t .3),
+)
+
 pub all-six : (a b c d e f : Bool) → (a && b && c && d && e && f ≡ true)
     ↔ ((a ≡ true) × (b ≡ true) × (c ≡ true) × (d ≡ true) × (e ≡ true) × (f ≡ true))
 all-six a b c d e f = (
   λ h.
       let t = and-elim (a && b && c && d && e) f h in
       let u = and-elim (a && b && c && d) e (t .0) in
-      let v = and-elim (a && b && c) d (u .0) in
-      let w = and-elim (a && b) c (v .0) in
-      let x = and-elim a b (w .0) in
-      (x .0, x .1, w .1, v .1, u .1, t .1),
-  λ t. and-intro _ _ (and-intro _ _ (and-intro _ _ (and-intro _ _ (and-intro _ _ (t .0) (t .1)) (t .2)) (t .3)) (t .4)) (t .5),
+      let v = all-four a b c d .0 (u .0) in
+      (v .0, v .1, v .2, v .3, u .1, t .1),
+  λ t. and-intro _ _ (and-intro _ _ (all-four a b c d .1 (t .0, t .1, t .2, t .3)) (t .4)) (t .5),
 )
 
 pub and-fails : (a b : Bool) → a && b ≡ false → (a ≡ false) ⊎ (b ≡ false)

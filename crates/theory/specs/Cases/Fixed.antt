@@ -33,10 +33,10 @@ fixing P input fixed = record {
 }
 
 -- No rules, state 0 an input and n agents fixed in state 1; which is no input, or one too.
-abbrev kept : ℕ → Protocol
+abbrev pub kept : ℕ → Protocol
 kept n = fixing settled (eqb 0) (0 ∷ n ∷ [])
 
-abbrev keptInput : ℕ → Protocol
+abbrev pub keptInput : ℕ → Protocol
 keptInput n = fixing settled (λ _. true) (0 ∷ n ∷ [])
 
 -- Where three agents are fixed in a state that is no input, two are too few and four too many; in an input state two are too
@@ -91,9 +91,9 @@ fixed-spare = (refl, refl, refl, refl, refl)
 
 -- In signed numbers: the weight 1 or -1 of state 1 joins the upper sum three times, and not where the state is absent at the
 -- start. An input with fixed agents is not taken off the sum of kind 7.
-pub fixed-signed : (upperSum (kept 3) (fresh (kept 3)) (λ k s. signed (oneWeight 1 1 10001 k s)) ≡ pos 3)
-    × (upperSum (keptInput 3) (fresh (keptInput 3)) (λ k s. signed (oneWeight 1 1 9999 k s)) ≡ negsuc 2)
-    × (upperSum (kept 3) (withAbsent (fresh (kept 3)) 0 (eqb 1)) (λ k s. signed (oneWeight 1 1 10001 k s)) ≡ pos 0)
+pub fixed-signed : (upperSum (kept 3) (fresh (kept 3)) (λ s. signed (oneWeight 1 1 10001 1 s)) ≡ pos 3)
+    × (upperSum (keptInput 3) (fresh (keptInput 3)) (λ s. signed (oneWeight 1 1 9999 1 s)) ≡ negsuc 2)
+    × (upperSum (kept 3) (withAbsent (fresh (kept 3)) 0 (eqb 1)) (λ s. signed (oneWeight 1 1 10001 1 s)) ≡ pos 0)
     × (fixedSum (kept 3) (fresh (kept 3)) (λ k s. signed (oneWeight 1 1 9999 k s)) ≡ negsuc 2)
     × (fixedSum (keptInput 3) (fresh (keptInput 3)) (λ k s. signed (oneWeight 1 1 9999 k s)) ≡ pos 0)
 unfolding closing upperSum fixedSum signedSum

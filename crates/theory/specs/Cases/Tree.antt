@@ -4,7 +4,7 @@ use mathlib.Core.Bool.{Bool, true, false, cond, _&&_}
 use mathlib.Core.List.{List, [], _∷_}
 use Prim.Native.Nat.{ℕ}
 use lib.Dec.{eqb, ltb}
-use lib.IntN.{ℤ, pos, negsuc}
+use lib.IntN.{ℤ, pos, negsuc, _+ℤ_}
 use Rattle.theory.specs.Protocol.{Protocol}
 use Rattle.theory.specs.Facts.{Facts, withAbsent, withPresent, withAtMostOne, withUnused, fresh}
 use Rattle.theory.specs.Leaf.{leafCloses, signed, signedSum, upperSum, lowerSum}
@@ -38,7 +38,7 @@ answer = answerWith noWeights
 -- ---- The fields of a node
 
 -- Three states of which 0 and 1 are inputs. Rules 0 1 to 1 1 and 1 2 to 0 2. States 1 and 2 have output 1.
-abbrev catalyst : Protocol
+abbrev pub catalyst : Protocol
 catalyst = record {
   states = 3;
   rules = 2;
@@ -216,7 +216,7 @@ settled = record {
 }
 
 -- n nodes, of which the first k are siphons, each the child of the one before; the others are of kind 1.
-abbrev siphons : ℕ → ℕ → Tree
+abbrev pub siphons : ℕ → ℕ → Tree
 siphons n k = record { nodes = n; leaves = 0; kind = λ i. cond (ltb i k) 6 1; party = λ _. 1; argument = λ _. 0; set = λ i. cond (ltb i k) 2 0 }
 
 -- Depth 40 is accepted, 41 is refused at its node. Nodes run out at depth 40, and at depth 41. Two nodes are left over.
@@ -405,10 +405,10 @@ fewFacts = withPresent (withAtMostOne (fresh settled) 1 (eqb 1)) 2 (eqb 1)
 abbrev fewWeights : ℕ → ℕ → ℤ
 fewWeights k s = signed (rows ([] ∷ (10000 ∷ 9999 ∷ []) ∷ (10000 ∷ 10002 ∷ []) ∷ []) k s)
 
-pub signed-sums : (lowerSum settled fewFacts fewWeights 1 ≡ negsuc 0)
-    × (lowerSum settled fewFacts fewWeights 2 ≡ pos 2)
-    × (upperSum settled fewFacts fewWeights ≡ pos 0)
-    × (upperSum settled (withPresent (fresh settled) 0 (eqb 0)) (λ k s. signed (oneWeight 1 0 9999 k s)) ≡ negsuc 0)
+pub signed-sums : (lowerSum settled fewFacts 1 (fewWeights 1) ≡ negsuc 0)
+    × (lowerSum settled fewFacts 2 (fewWeights 2) ≡ pos 2)
+    × (upperSum settled fewFacts (λ s. fewWeights 1 s +ℤ fewWeights 2 s) ≡ pos 0)
+    × (upperSum settled (withPresent (fresh settled) 0 (eqb 0)) (λ s. signed (oneWeight 1 0 9999 1 s)) ≡ negsuc 0)
 unfolding closes lowerSum upperSum signedSum
 signed-sums = (refl, refl, refl, refl)
 

@@ -1,5 +1,5 @@
--- Protocols with a certificate, so that the claims are not empty; and a configuration that is potentially reachable and
--- not reachable.
+-- Protocols with a certificate, and one with a claim sheet, so that the claims are not empty; and a configuration that is
+-- potentially reachable and not reachable.
 use mathlib.Core.Path.{_≡_, refl}
 use mathlib.Core.Bool.{true, false}
 use mathlib.Core.List.{List, [], _∷_}
@@ -11,9 +11,9 @@ use Rattle.theory.specs.Bool.Laws.{is-false, or-none, or-fails}
 use Rattle.theory.specs.Below.{sumBelow}
 use Rattle.theory.specs.Below.Laws.{all-elim}
 use Rattle.theory.specs.Weigh.Laws.{set-none}
-use Rattle.theory.specs.Protocol.{Protocol, count, pre, post, terminal, Start}
+use Rattle.theory.specs.Protocol.{Protocol, agreed, count, pre, post, terminal, outputOf, Start, startTest, after}
 use Rattle.theory.specs.Protocol.Laws.{start-test}
-use Rattle.theory.specs.Cases.Protocol.{column, broadcast, twoOutcomes}
+use Rattle.theory.specs.Cases.Protocol.{column, broadcast, majority, twoOutcomes}
 use Rattle.theory.specs.Cases.Ladder.{oneLayer, castWeights, outcomeWeights}
 use Rattle.theory.specs.Cases.Tables.{formed, partitioned}
 use Rattle.theory.specs.Tree.{takes, puts}
@@ -21,9 +21,13 @@ use Rattle.theory.specs.Tree.Traps.{follows-none}
 use Rattle.theory.specs.Cases.Tree.{tree, noWeights, leafWeights, answerWith, cast, trees, outcomeTree, one-verdict}
 use Rattle.theory.specs.Cases.Remainder.{parity, parityLayers, parityWeights, parityTree, oddOnes, parity-tree}
 use Rattle.theory.specs.Cases.Fixed.{seeded, seededTree, seed, seeds}
+use Rattle.theory.specs.Cases.Sheet.{majoritySheet, most-accepted}
 use Rattle.theory.specs.Potential.{Potential}
+use Rattle.theory.specs.Sheet.Claimed.{claimed}
 use Rattle.theory.specs.Claims.{Certified}
-use Rattle.theory.specs.Unfold.{meeting, laddering, walking}
+use Rattle.theory.specs.Claims.Theorems.{SheetAccepted, Decides}
+use Rattle.theory.specs.Claims.Proved.{theorems}
+use Rattle.theory.specs.Unfold.{meeting, laddering, walking, claiming}
 
 -- ---- Certificates
 
@@ -97,6 +101,25 @@ seeded-certified = (
   },
   start-test (seeded 3) (3 ∷ 2 ∷ 0 ∷ 0 ∷ []) refl (omega arith) .0 refl,
 )
+
+-- ---- Claim sheets
+
+-- The sheet of majority is accepted, so every vote that rests shows 1 if at least as many agents start in B as in A, else 0.
+pub decides-majority : SheetAccepted majority majoritySheet × Decides majority majoritySheet
+unfolding meeting
+decides-majority = (most-accepted, theorems majority .decides (formed majority refl refl) majoritySheet most-accepted)
+
+-- Starts for which it claims 0 and 1, and lists of rule numbers that end terminal from them.
+pub decided : (startTest majority (2 ∷ 1 ∷ 0 ∷ 0 ∷ []) ≡ 4)
+    × (claimed majoritySheet (2 ∷ 1 ∷ 0 ∷ 0 ∷ []) ≡ false)
+    × (terminal majority (after majority (2 ∷ 1 ∷ 0 ∷ 0 ∷ []) (0 ∷ 1 ∷ [])) ≡ true)
+    × (outputOf majority (after majority (2 ∷ 1 ∷ 0 ∷ 0 ∷ []) (0 ∷ 1 ∷ [])) ≡ agreed false)
+    × (startTest majority (1 ∷ 1 ∷ 0 ∷ 0 ∷ []) ≡ 4)
+    × (claimed majoritySheet (1 ∷ 1 ∷ 0 ∷ 0 ∷ []) ≡ true)
+    × (terminal majority (after majority (1 ∷ 1 ∷ 0 ∷ 0 ∷ []) (0 ∷ 3 ∷ [])) ≡ true)
+    × (outputOf majority (after majority (1 ∷ 1 ∷ 0 ∷ 0 ∷ []) (0 ∷ 3 ∷ [])) ≡ agreed true)
+unfolding meeting claiming
+decided = (refl, refl, refl, refl, refl, refl, refl, refl)
 
 -- ---- Potential reachability
 

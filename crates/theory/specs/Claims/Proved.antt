@@ -27,14 +27,18 @@ use Rattle.theory.specs.Tree.Consensus.{consensus}
 use Rattle.theory.specs.Potential.Runs.{parikh}
 use Rattle.theory.specs.Potential.{Potential}
 use Rattle.theory.specs.Potential.Reached.{reached, reach}
+use Rattle.theory.specs.Sheet.{Sheet}
+use Rattle.theory.specs.Sheet.Laws.{answer-accepted, answer-refused, sheet-decides}
+use Rattle.theory.specs.Sheet.Signed.{claimed-is, first-is, second-is}
 use Rattle.theory.specs.Machine.Lists.{lastCounts, reported}
 use Rattle.theory.specs.Machine.{Call, step, run, ran, isRefused, isSized, admitted, runNumbers, stepReply, runReply, reply, numbersOf}
 use Rattle.theory.specs.Machine.Rest.{run-rests}
 use Rattle.theory.specs.Machine.Laws.{RunList, admitted-last, tries, reply-step, reply-run, reply-off, lastCounts-off, reported-off}
 use Rattle.theory.specs.Machine.Laws.{step-no-rule, step-not-enabled, step-fires, step-refused, runNumbers-is, lastCounts-after}
 use Rattle.theory.specs.Machine.Laws.{numbersOf-append, numbersOf-snoc, reported-meetings}
-use Rattle.theory.specs.Claims.Theorems.{HandoverExact, Theorems}
-use Rattle.theory.specs.Claims.{Certified, Reaches, AsPublished, LayeredBy, LayeredTermination, Consensus, StrongConsensus, WS², WS³, Rests}
+use Rattle.theory.specs.Claims.Theorems.{SheetAccepted, Decides, DecidesPotentially, SheetIs, HandoverExact, Theorems}
+use Rattle.theory.specs.Claims.{Certified, Reaches, AsPublished, LayeredBy, LayeredTermination, Consensus, ReachesPotentially, StrongConsensus}
+use Rattle.theory.specs.Claims.{WS², WS³, Rests}
 use Rattle.theory.specs.Claims.{RunMakes, CallsMake, CallsRest, Rank, AllRefused}
 use Rattle.theory.specs.Subtree.Laws.{tree-stands, tree-fails}
 use Rattle.theory.specs.Claims.LayerWords.{layers-are}
@@ -83,10 +87,12 @@ module _ (P : Protocol) (good : WellFormed P) where
 
   -- ---- Consensus
 
+  -- What is reachable is potentially reachable.
+  potential : (c d : List ℕ) → length c ≡ P .states → Reaches P c d → ReachesPotentially P c d
+  potential c d long r = (parikh P c (r .0), subst (Potential P (parikh P c (r .0)) c) (r .1) (reached P good c (r .0) long))
+
   stronger : StrongConsensus P → Consensus P
-  stronger strong c start =
-      let v = strong c start in
-      (v .0, λ d r x. v .1 d (parikh P c (r .0), subst (Potential P (parikh P c (r .0)) c) (r .1) (reached P good c (r .0) (start .sized))) x)
+  stronger strong c start = let v = strong c start in (v .0, λ d r x. v .1 d (potential c d (start .sized) r) x)
 
   ws³-in-ws² : WS³ P → WS² P
   ws³-in-ws² w = record { termination = layered-terminates P (w .layered-termination); consensus = stronger (w .strong-consensus) }
@@ -280,6 +286,19 @@ module _ (P : Protocol) (cert : Certified P) where
           (reach P good c (t .1 .0) (start .sized)) (ap (terminal P) (t .1 .1) ∙ t .2) in
           (v .0, λ d r x. v .1 (record { end = d; through = r .0; potential = r .1 }) x)
 
+-- ---- Claim sheets
+
+module _ (P : Protocol) (Z : Sheet) where
+  sheet-is : SheetIs P Z
+  sheet-is = record { claimed-is = claimed-is P Z; first-is = λ F w k. first-is P F w k Z; second-is = λ small F w k. second-is P F w k Z small }
+
+  decides-potentially : WellFormed P → SheetAccepted P Z → DecidesPotentially P Z
+  decides-potentially good e c d start r =
+      sheet-decides P good Z (Z .first .nodes + Z .second .nodes) e c start (record { end = d; through = r .0; potential = r .1 })
+
+  decides : WellFormed P → SheetAccepted P Z → Decides P Z
+  decides good e c d start r = decides-potentially good e c d start (potential P good c d (start .sized) r)
+
 pub theorems : (P : Protocol) → Theorems P
 theorems P = record {
   as-published = as-published P;
@@ -311,4 +330,11 @@ theorems P = record {
   };
   ws³ = ws³ P;
   ws² = λ cert. ws³-in-ws² P (cert .ladder .formed) (ws³ P cert);
+  sheet-is = sheet-is P;
+  sheet-accepted = answer-accepted P;
+  sheet-refused = answer-refused P;
+  decides-potentially = λ good Z. decides-potentially P Z good;
+  decides = λ good Z. decides P Z good;
+  decides-lists = λ Z all c start rs. all c (after P c rs) start (rs, refl);
+  decides-calls = λ Z all L c start xs. all c (lastCounts P L c xs) start (numbersOf P L c xs, sym (lastCounts-after P L c xs));
 }

@@ -97,7 +97,7 @@ module _ (P : Protocol) (good : WellFormed P) (σ : Runs P) (F : Facts) (h : Hol
       (λ p. rw (q, p) (omega (arith, over b (w s) (count (at P σ k) s) 0 (omega arith) (omega arith))))))
 
   -- The start weighs at most its size times the bias, with the extras and less the spares.
-  start-bound : (b : ℕ) (w : ℕ → ℕ) → AtMost P F b w
+  pub start-bound : (b : ℕ) (w : ℕ → ℕ) → AtMost P F b w
       → weigh w (at P σ 0) + total P (spare (times P F) b w) ≤ weigh (λ _. b) (at P σ 0) + total P (extra (times P F) b w)
   start-bound b w low =
       rw (length-at P σ 0) at
@@ -105,7 +105,7 @@ module _ (P : Protocol) (good : WellFormed P) (σ : Runs P) (F : Facts) (h : Hol
       (λ s l. let k : s < P .states = omega (arith, length-at P σ 0) in start-term b w s k (low s k)))
 
   -- An end weighs at least its size times the bias, with the surpluses and less the shortfalls.
-  end-bound : (k b : ℕ) (w : ℕ → ℕ) → FewBelow P F b k w
+  pub end-bound : (k b : ℕ) (w : ℕ → ℕ) → FewBelow P F b k w
       → weigh (λ _. b) (at P σ k) + total P (surplus P F k b w) ≤ weigh w (at P σ k) + total P (shortfall P F k b w)
   end-bound k b w few =
       rw (length-at P σ k) at
@@ -113,7 +113,7 @@ module _ (P : Protocol) (good : WellFormed P) (σ : Runs P) (F : Facts) (h : Hol
       (λ s l. end-term k b w s (few s (omega (arith, length-at P σ k)))))
 
   -- A run does not raise a weight that its rules do not raise.
-  run-bound : (k : ℕ) (w : ℕ → ℕ) → Falls P F k w → weigh w (at P σ k) ≤ weigh w (σ .start)
+  pub run-bound : (k : ℕ) (w : ℕ → ℕ) → Falls P F k w → weigh w (at P σ k) ≤ weigh w (σ .start)
   run-bound k w falls =
       weigh-kept P good (σ .starts .sized) (σ .run k .potential) w
       (λ r l u. falls r l (is-false _ (λ (t : F .unused k r ≡ true). omega (arith, h .unused k r t))))

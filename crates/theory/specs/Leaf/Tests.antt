@@ -45,13 +45,13 @@ module _ (P : Protocol) (F : Facts) where
     pub ends : (k : ℕ) → 1 ≤ k → k ≤ 2 → FewBelow 10000 k (w k)
     pub sums : reductions w < additions w
 
-  falls : (k : ℕ) (v : ℕ → ℕ) → (nonIncreasing P (F .unused k) v ≡ true) ↔ Falls k v
+  pub falls : (k : ℕ) (v : ℕ → ℕ) → (nonIncreasing P (F .unused k) v ≡ true) ↔ Falls k v
   unfolding nonIncreasing
   falls k v =
       let t = all-unless (P .rules) (F .unused k) (λ r. leb (v (P .p′ r) + v (P .q′ r)) (v (P .p r) + v (P .q r))) in
       (λ e r l u. leb-true _ _ (t .0 e r l u), λ h. t .1 (λ r l u. le-leb _ _ (h r l u)))
 
-  at-most : (b : ℕ) (v : ℕ → ℕ) → (startFits P F b v ≡ true) ↔ AtMost b v
+  pub at-most : (b : ℕ) (v : ℕ → ℕ) → (startFits P F b v ≡ true) ↔ AtMost b v
   unfolding startFits
   at-most b v =
       let t = all-unless (P .states) (F .absent 0) (λ s. onlyFixed P s || leb (v s) b) in (
@@ -59,7 +59,7 @@ module _ (P : Protocol) (F : Facts) where
         λ h. t .1 (λ s l a. by-test (onlyFixed P s) (or-left _ _) (λ n. or-right (onlyFixed P s) (leb (v s) b) (le-leb _ _ (h s l a n)))),
       )
 
-  few-below : (b k : ℕ) (v : ℕ → ℕ) → (endFits P F k b v ≡ true) ↔ FewBelow b k v
+  pub few-below : (b k : ℕ) (v : ℕ → ℕ) → (endFits P F k b v ≡ true) ↔ FewBelow b k v
   unfolding endFits
   few-below b k v =
       let t = all-unless (P .states) (F .absent k) (λ s. leb b (v s) || F .atMostOne k s) in (

@@ -10,13 +10,12 @@ use borrow.Author.Tests.{ltb-false}
 use lib.IntN.{ℤ, pos, negsuc, negℤ, _+ℤ_, _-ℤ_, _*ℤ_}
 use Rattle.theory.specs.Bool.{bit}
 use Rattle.theory.specs.Bool.Laws.{by-test, is-false, not-both}
-use Rattle.theory.specs.Below.Laws.{sum-same}
 use Rattle.theory.specs.Protocol.{Protocol}
 use Rattle.theory.specs.Protocol.Laws.{only-not}
 use Rattle.theory.specs.Facts.{Facts}
 use Rattle.theory.specs.Leaf.{extra, spare, total, signed}
-use Rattle.theory.specs.Leaf.Signed.{plus, minus, parts-same, add-parts, neg-parts, times-parts, sum-parts, weight-parts, pair-parts}
-use Rattle.theory.specs.Leaf.Signed.{Joined, joined-times, joined-is}
+use Rattle.theory.specs.Leaf.Signed.{plus, minus, parts-same, add-parts, neg-parts, weight-parts, pair-parts}
+use Rattle.theory.specs.Leaf.Signed.{Biased, sum-biased, Joined, joined-times}
 use Rattle.theory.specs.Remainder.{congruent, exactlyOne, known, excess, deficit, remainderCloses, SameModulo, exactSum, fixedSum, RemainderRule}
 use Rattle.theory.specs.Remainder.Congruence.{Congruent, congruent-is}
 use Rattle.theory.specs.Remainder.Tests.{additions, reductions, remainder-closes}
@@ -85,41 +84,37 @@ module _ (m : ℕ) where
   same-pair a b = same-pairs a b 10000 10000
 
 -- The term of a state in the sum: e says whether it is known to hold exactly one agent.
-exact-term : (e : Bool) (w : ℕ) → let y = cond e (signed w) (pos 0) in (plus y ≡ bit e * (w - 10000)) × (minus y ≡ bit e * (10000 - w))
+exact-term : (e : Bool) (w : ℕ) → Biased (bit e * (10000 - w)) (cond e (signed w) (pos 0)) (bit e * (w - 10000))
 exact-term true w = omega (arith, weight-parts w)
 exact-term false w = omega arith
 
 -- The term of a state in what is taken off: a says whether it is absent, i whether it is an input, n is its number of fixed
 -- agents.
 fixed-term : (a i : Bool) (n v w : ℕ)
-    → Joined (cond (not a && not i) (pos n *ℤ (signed v +ℤ signed w)) (pos 0)) (bit (not a && (ltb 0 n && not i)) * n) v w
+    → Joined 20000 (cond (not a && not i) (pos n *ℤ (signed v +ℤ signed w)) (pos 0)) (bit (not a && (ltb 0 n && not i)) * n) (v + w)
 fixed-term true i n v w = omega arith
 fixed-term false true n v w = rw (and-false (ltb 0 n)) (omega arith)
 fixed-term false false n v w =
     by-test (ltb 0 n)
-    (λ e. let d : 1 * n ≡ n = omega arith in rw (e, d) (joined-times n v w))
-    (λ e. let d : n ≡ 0 = omega (arith, ltb-false 0 n e) in rw (e, d) (joined-times 0 v w))
+    (λ e. let d : 1 * n ≡ n = omega arith in rw (e, d) (joined-times n 20000 (signed v +ℤ signed w) (v + w) (pair-parts v w)))
+    (λ e. let d : n ≡ 0 = omega (arith, ltb-false 0 n e) in rw (e, d) (joined-times 0 20000 (signed v +ℤ signed w) (v + w) (pair-parts v w)))
 
 module _ (P : Protocol) (m : ℕ) (F : Facts) (w : ℕ → ℕ → ℕ) where
   abbrev y : ℕ → ℕ → ℤ
   y k s = signed (w k s)
 
-  -- The sum of an end is additions - reductions.
-  exact-is : (k : ℕ) → plus (exactSum P F y k) + total P (deficit F k 10000 (w k)) ≡ minus (exactSum P F y k) + total P (excess F k 10000 (w k))
+  -- The sum of an end is its excess less its deficit.
+  exact-is : (k : ℕ) → Biased (total P (deficit F k 10000 (w k))) (exactSum P F y k) (total P (excess F k 10000 (w k)))
   unfolding exactSum excess deficit
-  exact-is k =
-      let f : ℕ → ℤ = λ s. cond (exactlyOne F k s) (y k s) (pos 0) in
-      omega (
-        arith,
-        sum-parts (P .states) f,
-        sum-same (P .states) (λ s. plus (f s)) (excess F k 10000 (w k)) (λ s _. exact-term (exactlyOne F k s) (w k s) .0),
-        sum-same (P .states) (λ s. minus (f s)) (deficit F k 10000 (w k)) (λ s _. exact-term (exactlyOne F k s) (w k s) .1),
-      )
+  exact-is k = sum-biased (P .states) _ (deficit F k 10000 (w k)) (excess F k 10000 (w k)) (λ s _. exact-term (exactlyOne F k s) (w k s))
 
   fixed-is : let v : ℕ → ℕ = λ s. w 1 s + w 2 s in
-      plus (fixedSum P F y) + total P (spare (known P F) 20000 v) ≡ minus (fixedSum P F y) + total P (extra (known P F) 20000 v)
-  unfolding fixedSum known
-  fixed-is = joined-is P F w _ (known P F) (λ s. fixed-term (F .absent 0 s) (P .input s) (P .fixed s) (w 1 s) (w 2 s))
+      Biased (total P (spare (known P F) 20000 v)) (fixedSum P F y) (total P (extra (known P F) 20000 v))
+  unfolding fixedSum known spare extra
+  fixed-is =
+      let v : ℕ → ℕ = λ s. w 1 s + w 2 s in
+      sum-biased (P .states) _ (spare (known P F) 20000 v) (extra (known P F) 20000 v)
+      (λ s _. fixed-term (F .absent 0 s) (P .input s) (P .fixed s) (w 1 s) (w 2 s))
 
   sums-is : SameModulo m (exactSum P F y 1 +ℤ exactSum P F y 2 -ℤ fixedSum P F y) (pos 0) ↔ (congruent m (additions P m F w) (reductions P m F w) ≡ true)
   sums-is =

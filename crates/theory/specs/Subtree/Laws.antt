@@ -16,10 +16,10 @@ use Rattle.theory.specs.Tree.{Walked, next, refused, refusalNumber, fore
 use Rattle.theory.specs.Tree.Laws.{by-answer, refused-not-next}
 use Rattle.theory.specs.Subtree.{InOrder, InOne, Stands, Subtree, Wrong, Fails, TreeStands, TreeFails}
 
-next-same : {i j : ℕ} → next i ≡ next j → i ≡ j
+pub next-same : {i j : ℕ} → next i ≡ next j → i ≡ j
 next-same {i} {j} e = cc
 
-refused-same : {n k m j : ℕ} → refused n k ≡ refused m j → (n ≡ m) × (k ≡ j)
+pub refused-same : {n k m j : ℕ} → refused n k ≡ refused m j → (n ≡ m) × (k ≡ j)
 refused-same {n} {k} {m} {j} e = (cc, cc)
 
 -- ---- Children
@@ -206,6 +206,17 @@ module _ (P : Protocol) (H : Assumption) (T : Tree) where
   number-12-13 n k = ⊎-elim (fails-number n k 40 (fresh P) 0) (λ s. inl (s .2))
 
   -- ---- The whole tree
+
+  -- An accepted tree has no nodes left over.
+  pub tree-next : (j : ℕ) → treeAnswer P H T ≡ next j → j ≡ T .nodes
+  unfolding treeAnswer
+  tree-next j e =
+      by-answer (treeAt P H T 40 (fresh P) 0)
+      (λ i q.
+      by-test (eqb i (T .nodes))
+      (λ t. sym (next-same (rw (q, t, treeAnswer) at e)) ∙ eqb-true _ _ t)
+      (λ t. absurd (refused-not-next (rw (q, t, treeAnswer) at e))))
+      (λ n i q. absurd (refused-not-next (rw (q, treeAnswer) at e)))
 
   pub tree-stands : (treeAnswer P H T ≡ next (T .nodes)) ↔ TreeStands P H T
   unfolding treeAnswer

@@ -37,6 +37,11 @@ unfolding weigh
 weigh-add v w [] = refl
 weigh-add v w (x ∷ xs) = omega (arith, weigh-add (λ i. v (suc i)) (λ i. w (suc i)) xs)
 
+pub weigh-scale : (k : ℕ) (w : ℕ → ℕ) (c : List ℕ) → weigh (λ i. k * w i) c ≡ k * weigh w c
+unfolding weigh
+weigh-scale k w [] = omega arith
+weigh-scale k w (x ∷ xs) = omega (arith, weigh-scale k (λ i. w (suc i)) xs)
+
 pub weigh-const : (m : ℕ) (c : List ℕ) → weigh (λ _. m) c ≡ weigh (λ _. 1) c * m
 unfolding weigh
 weigh-const m [] = omega arith

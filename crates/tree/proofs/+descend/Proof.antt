@@ -6,7 +6,7 @@ use borrow.Author.Needs.{needs}
 use borrow.Fn.Kinds.{In}
 use borrow.Fn.PlainCycle.{Measures, is, falls, and}
 use Rattle.theory.specs.Tree.{treeAt}
-use Rattle.format.specs.Format.{protocolOf, treeOf, weightsOf}
+use Rattle.format.specs.Format.{protocolOf, treeOf}
 use Rattle.facts.specs.Code.{factsOf}
 use Rattle.node.specs.Code.{assumptionOf}
 use Rattle.node.proofs.node_step.Reads as node-step-reads
@@ -18,17 +18,17 @@ use Rattle.tree.proofs.+descend.Lts-descend as lts
 use Rattle.tree.proofs.+descend.{statement}
 use Rattle.tree.proofs.+descend.Tie.{close}
 
-abbrev μ : Measures 4 kinds.ps ℕ
-μ κs a = a .1 .1 .1 .1 .1 .1 .0
+abbrev μ : Measures 5 kinds.ps ℕ
+μ κs a = a .1 .1 .1 .1 .1 .1 .1 .0
 
 abbrev Inv-loop : lts.InvT-loop
-Inv-loop states rules nodes leaves z aim depth start left₀ facts₀ i₀ left facts i =
+Inv-loop states rules nodes numbers leaves z aim depth start left₀ facts₀ i₀ left facts i =
     let P = protocolOf z states rules in
-    let H = assumptionOf P (weightsOf z leaves) aim in
+    let H = assumptionOf P z numbers leaves aim in
     (left ≤ left₀) × (treeAt P H (treeOf z nodes) left (factsOf facts) i ≡ treeAt P H (treeOf z nodes) left₀ (factsOf facts₀) i₀)
 
 abbrev μ-loop : lts.MeasureT-loop
-μ-loop states rules nodes leaves z aim depth start left₀ facts₀ i₀ left facts i = left
+μ-loop states rules nodes numbers leaves z aim depth start left₀ facts₀ i₀ left facts i = left
 
 -- What is known of the functions that are called, and what is asked at the start, where the measure is t.
 module _ (t : ℕ) where
@@ -38,12 +38,12 @@ module _ (t : ℕ) where
     refusal-code-reads.Learnt,
     node-step-reads.Asked,
     node-step-reads.Learnt,
-    and 4 kinds.ps (falls 4 kinds.ps _<_ μ t) descend.Pre,
+    and 5 kinds.ps (falls 5 kinds.ps _<_ μ t) descend.Pre,
     descend.Post,
   )
 
-  abbrev asked : In 4 kinds.ps
-  asked = and 4 kinds.ps (is 4 kinds.ps μ t) descend.Pre
+  abbrev asked : In 5 kinds.ps
+  asked = and 5 kinds.ps (is 5 kinds.ps μ t) descend.Pre
 
   loop-holds : lts.Need-loop-holds claims asked descend.Post Inv-loop μ-loop
   loop-holds c = search (steps, needs)
@@ -72,7 +72,7 @@ module _ (t : ℕ) where
       let within = c .before .before .before .before .before .before .if1 .left in
       let deep = c .before .before .before .before .before .before .before .before .loop-test .taken in
       let told = c .before .outcome .given .1 in
-      (number-some _ _ _ _ _ _ _ _ _ _ deep within step _ told, number-small _ _ _ _ _ _ _ _ _ _ deep within step _ told)
+      (number-some _ _ _ _ _ _ _ _ _ _ _ deep within step _ told, number-small _ _ _ _ _ _ _ _ _ _ _ deep within step _ told)
 
   returns-2 : lts.Need-returns-2 claims asked descend.Post Inv-loop μ-loop
   returns-2 c =
@@ -80,7 +80,7 @@ module _ (t : ℕ) where
       let within = c .before .before .before .before .before .before .before .if1 .left in
       let deep = c .before .before .before .before .before .before .before .before .before .loop-test .taken in
       let so-far = c .before .before .before .before .before .before .before .before .before .before .loop .inv .1 in
-      step-refused _ _ _ _ _ _ _ _ _ _ deep within step _ so-far _ _ (c .before .before .outcome .given .1) (c .refusal-code2 .ensures)
+      step-refused _ _ _ _ _ _ _ _ _ _ _ deep within step _ so-far _ _ (c .before .before .outcome .given .1) (c .refusal-code2 .ensures)
 
   enum-told : lts.Need-enum-told claims asked descend.Post Inv-loop μ-loop
   enum-told c = search needs
@@ -94,7 +94,7 @@ module _ (t : ℕ) where
       let within = c .before .before .before .before .before .if1 .left in
       let deep = c .before .before .before .before .before .before .before .loop-test .taken in
       let so-far = c .before .before .before .before .before .before .before .before .loop .inv .1 in
-      step-closed _ _ _ _ _ _ _ _ _ _ deep within step _ so-far (c .enum-told .given .1) (search needs)
+      step-closed _ _ _ _ _ _ _ _ _ _ _ deep within step _ so-far (c .enum-told .given .1) (search needs)
 
   enum-told-2 : lts.Need-enum-told-2 claims asked descend.Post Inv-loop μ-loop
   enum-told-2 c = search needs
@@ -117,7 +117,7 @@ module _ (t : ℕ) where
       let within = c .before .before .before .before .before .before .before .if1 .left in
       let deep = c .before .before .before .before .before .before .before .before .before .loop-test .taken in
       let so-far = c .before .before .before .before .before .before .before .before .before .before .loop .inv .1 in
-      step-stopped _ _ _ _ _ _ _ _ _ _ deep within step _ so-far _ (c .before .before .enum-told3 .given .1) (c .before .descend .ensures) (c .if2 .taken)
+      step-stopped _ _ _ _ _ _ _ _ _ _ _ deep within step _ so-far _ (c .before .before .enum-told3 .given .1) (c .before .descend .ensures) (c .if2 .taken)
 
   cast-i : lts.Need-cast-i claims asked descend.Post Inv-loop μ-loop
   cast-i c = search needs
@@ -132,7 +132,7 @@ module _ (t : ℕ) where
       let deep = c .before .before .before .before .before .before .before .before .before .loop-test .taken in
       let so-far = c .before .before .before .before .before .before .before .before .before .before .loop .inv .1 in (
         search needs,
-        step-second _ _ _ _ _ _ _ _ _ _ deep within step _ so-far _ (c .before .before .enum-told3 .given .1) (c .before .descend .ensures) (c .if2 .left),
+        step-second _ _ _ _ _ _ _ _ _ _ _ deep within step _ so-far _ (c .before .before .enum-told3 .given .1) (c .before .descend .ensures) (c .if2 .left),
       )
 
   refusal-code-requires-3 : lts.Need-refusal-code-requires-3 claims asked descend.Post Inv-loop μ-loop

@@ -4,8 +4,8 @@ use borrow.Author.Needs.{needs}
 use Rattle.tree.proofs.check_tree.Statement.{statement}
 use Rattle.tree.proofs.check_tree.Tie as tie
 
-disagreement-aim-requires : tie.Need-disagreement-aim-requires
-disagreement-aim-requires c κs = search needs
+aim-at-requires : tie.Need-aim-at-requires
+aim-at-requires c κs = search needs
 
 walk-tree-requires : tie.Need-walk-tree-requires
 walk-tree-requires c κs = search needs
@@ -17,6 +17,6 @@ pub check-tree-spec : {M : Type 1} → statement M
 check-tree-spec =
     tie.close
     (tie.spec
-    disagreement-aim-requires
+    aim-at-requires
     walk-tree-requires
     returns)

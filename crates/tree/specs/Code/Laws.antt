@@ -22,12 +22,15 @@ use Rattle.format.specs.declared.Sizes.{Sizes}
 use Rattle.facts.specs.Code.{factsOf, freshOf}
 use Rattle.facts.specs.Code.Laws.{fresh-is}
 use Rattle.shape.specs.declared.Refusal.{Refusal}
+use Rattle.threshold.specs.Code.{closesFor, moduliFor, closesModuloFor}
+use Rattle.threshold.specs.declared.Leaves.{Leaves}
+use Rattle.threshold.specs.declared.Leaves.the-variants.{OfDocket}
 use Rattle.node.specs.Code.{assumptionOf, Turn, refuse, proceed, check, nodeTurn, turnAt, turnOfOutcome, turnOfStep}
 use Rattle.node.specs.declared.Aim.{Aim}
 use Rattle.node.specs.declared.Outcome.{Outcome}
 use Rattle.node.specs.declared.Outcome.the-variants.{Refused as Failed, Closed, Child, Children}
 use Rattle.node.specs.declared.Step.{Step}
-use Rattle.tree.specs.Code.{walkedOf, walkedIn, Disagrees, setSizeAt}
+use Rattle.tree.specs.Code.{walkedOf, walkedIn, AimsAt, setSizeAt}
 use Rattle.tree.specs.declared.Walk.{Walk}
 use Rattle.tree.specs.declared.Walk.the-variants.{Next, Refused}
 
@@ -126,20 +129,20 @@ module _ (P : Protocol) (H : Assumption) (T : Tree) (d : ℕ) (F : Facts) (i : �
       past (suc k) m = rw (le-ltb i (T .nodes) l, treeAt)
 
 -- The step s is that of node i.
-module _ (z : Sizes) (states rules nodes leaves : List ℕ) (aim : Aim) (d : ℕ) (F : Facts) (i : ℕ) (s : Step) (h : 0 < d) (l : i < z .nodes)
-    (e : turnOfStep s ≡ turnAt z states rules nodes leaves aim F i) where
+module _ (z : Sizes) (states rules nodes numbers leaves : List ℕ) (aim : Aim) (d : ℕ) (F : Facts) (i : ℕ) (s : Step) (h : 0 < d) (l : i < z .nodes)
+    (e : turnOfStep s ≡ turnAt z states rules nodes numbers leaves aim F i) where
   abbrev walk : ℕ → Facts → ℕ → Walked
-  walk = let P = protocolOf z states rules in treeAt P (assumptionOf P (weightsOf z leaves) aim) (treeOf z nodes)
+  walk = let P = protocolOf z states rules in treeAt P (assumptionOf P z numbers leaves aim) (treeOf z nodes)
 
   abbrev below : Facts → ℕ → Walked
   below = walk (d - 1)
 
   number : (n : ℕ) → s .outcome ≡ Failed n → (12 ≤ n) × (n ≤ 13)
   unfolding turnAt
-  number n q = numbers (sym (ap (λ (o : Outcome). turnOfOutcome o (factsOf (s .first)) (factsOf (s .second))) q) ∙ e)
+  number n q = within (sym (ap (λ (o : Outcome). turnOfOutcome o (factsOf (s .first)) (factsOf (s .second))) q) ∙ e)
     where
-      numbers : refuse n ≡ turnAt z states rules nodes leaves aim F i → (12 ≤ n) × (n ≤ 13)
-      numbers t = turn-number _ _ F _ n (sym t)
+      within : refuse n ≡ turnAt z states rules nodes numbers leaves aim F i → (12 ≤ n) × (n ≤ 13)
+      within t = turn-number _ _ F _ n (sym t)
 
   pub number-small : (n : ℕ) → s .outcome ≡ Failed n → n < 65536
   number-small n q = omega (arith, number n q)
@@ -210,41 +213,45 @@ module _ (P : Protocol) (H : Assumption) (T : Tree) (F : Facts) (c : ℕ) (w : W
 
 pub ruleset answers = (answer-refused, answer-whole, answer-left)
 
--- ---- The aim of a docket's tree
+-- ---- What a tree refutes
 
 other-states : (h l b : Bool) → (h && l) && not (h && (l && b)) ≡ h && (l && not b)
 other-states true true b = refl
 other-states true false b = refl
 other-states false l b = refl
 
--- u has all states, w those of output 1 and v the others.
-pub aim-disagrees : (z : Sizes) (states : List ℕ) (u v w : ℕ) → member w ≡ amongOf (z .states) (isOutput z states) → member u ≡ fullOf (z .states)
-    → member v ≡ withoutOf u w → Disagrees z states (record { runs = 2; first = false; second = true; zeros = v; ones = w })
+-- x has all states, w those of output 1 and y the others.
+pub aims-at : (z : Sizes) (states : List ℕ) (k : ℕ) (u v : Bool) (whose : Leaves) (x y w : ℕ) → k ≤ 2
+    → member w ≡ amongOf (z .states) (isOutput z states) → member x ≡ fullOf (z .states) → member y ≡ withoutOf x w
+    → AimsAt z states k u v whose (record { runs = k; first = u; second = v; zeros = y; ones = w; whose = whose })
 unfolding amongOf
-aim-disagrees z states u v w e d f =
+aims-at z states k u v whose x y w few e d f =
     record {
       fits = record {
-        runs-most = omega arith;
+        runs-most = few;
         zeros = f ∙ fun-ext (λ s. rw (d, e) (other-states (ltb s 64) (ltb s (z .states)) (isOutput z states s)));
         ones = e;
       };
       runs = refl;
       first = refl;
       second = refl;
+      leaves = refl;
     }
 
 cond-self : (b : Bool) → cond b true false ≡ b
 cond-self true = refl
 cond-self false = refl
 
-pub answer-disagrees : (z : Sizes) (states : List ℕ) (P : Protocol) (weights : ℕ → ℕ → ℕ → ℕ) (T : Tree) (a : Aim) (x : Walked)
-    → Disagrees z states a → x ≡ treeAnswer P (assumptionOf P weights a) T → x ≡ treeAnswer P (disagreement P weights) T
-unfolding disagreement
-answer-disagrees z states P weights T a x h e =
+-- A docket's tree.
+pub answer-disagrees : (z : Sizes) (states numbers leaves : List ℕ) (P : Protocol) (T : Tree) (a : Aim) (x : Walked)
+    → AimsAt z states 2 false true OfDocket a → x ≡ treeAnswer P (assumptionOf P z numbers leaves a) T
+    → x ≡ treeAnswer P (disagreement P (weightsOf z leaves)) T
+unfolding disagreement closesFor moduliFor closesModuloFor
+answer-disagrees z states numbers leaves P T a x h e =
     e
     ∙ ap (λ (H : Assumption). treeAnswer P H T)
-    (rw (h .runs, h .first, h .second)
-    (ap (λ (f : ℕ → Bool). assuming P 2 f weights) (fun-ext (λ k. cond-self (eqb k 2)))))
+    (rw (h .runs, h .first, h .second, h .leaves)
+    (ap (λ (f : ℕ → Bool). assuming P 2 f (weightsOf z leaves)) (fun-ext (λ k. cond-self (eqb k 2)))))
 
 -- ---- The widest set
 

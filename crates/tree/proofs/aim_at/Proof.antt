@@ -1,8 +1,8 @@
 -- The words are of the states of output 1 and of the others.
-use Rattle.tree.specs.Code.Laws.{aim-disagrees}
+use Rattle.tree.specs.Code.Laws.{aims-at}
 use borrow.Author.Needs.{needs}
-use Rattle.tree.proofs.disagreement_aim.Statement.{statement}
-use Rattle.tree.proofs.disagreement_aim.Tie as tie
+use Rattle.tree.proofs.aim_at.Statement.{statement}
+use Rattle.tree.proofs.aim_at.Tie as tie
 
 flag-set-requires : tie.Need-flag-set-requires
 flag-set-requires c κs = search needs
@@ -17,10 +17,10 @@ without-requires : tie.Need-without-requires
 without-requires c κs = search needs
 
 returns : tie.Need-returns
-returns c = search (aim-disagrees, needs)
+returns c = search (aims-at, needs)
 
-pub disagreement-aim-spec : {M : Type 1} → statement M
-disagreement-aim-spec =
+pub aim-at-spec : {M : Type 1} → statement M
+aim-at-spec =
     tie.close
     (tie.spec
     flag-set-requires

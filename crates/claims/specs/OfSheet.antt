@@ -62,8 +62,8 @@ module _ (b y : List ℕ) where
   abbrev pub leafAt : ℕ → ℕ
   leafAt l = K .at .leaves + l * (2 * S + 2)
 
-  -- The bytes keep every rule (test 15): the header is the docket's S, the nodes of either tree, the leaves, the offsets and the total.
-  pub record SheetSound : Type 0 where
+  -- The header keeps its rules: the docket's S, the nodes of either tree, the leaves, the offsets and the total.
+  pub record SheetLaid : Type 0 where
     pub header : 16 ≤ length y
     pub states : K .states ≡ S
     pub first : (1 ≤ K .first) × (K .first ≤ 1024)
@@ -75,6 +75,10 @@ module _ (b y : List ℕ) where
     pub leaves-at : K .at .leaves ≡ K .at .nodes + 12 * (K .first + K .second)
     pub total-at : K .at .total ≡ leafAt (K .leaves)
     pub whole : length y ≡ K .at .total
+
+  -- The bytes keep every rule (test 15).
+  pub record SheetSound : Type 0 where
+    pub laid : SheetLaid
     -- The number of a state is 0 unless it is an input.
     pub numbers : (s : ℕ) → s < S → P .input s ≡ false → le16 y (16 + 2 * s) ≡ 0
     -- In every leaf, named by a node or not, each weight is -10,000 to 10,000 (biased it is the weight plus 10,000, and OfDocket's

@@ -11,16 +11,6 @@ use libc::STDIN_FILENO;
 use libc::STDOUT_FILENO;
 use sheet::SheetChecked;
 
-// How far a and b are apart.
-fn distance(a: u32, b: u32) -> u32
-    ensures { λ d. ⌜ d ≡ (a - b) + (b - a) ⌝ }
-{
-    if a < b {
-        return b - a;
-    }
-    a - b
-}
-
 // Reads at most so many bytes of standard input into the buffer, and answers how many.
 fn read_part(buffer: &mut [u8], most: u16) -> usize
     ensures { λ n. ⌜ Counts n (now (buffer .exit)) ⌝ }
@@ -33,15 +23,15 @@ fn read_part(buffer: &mut [u8], most: u16) -> usize
 }
 
 // Prints a space and the signed number to which the bias was added, and answers the number without its sign.
-fn print_signed(number: u32, bias: u32) -> u32
+fn print_signed(number: u32, bias: u32) -> u64
     ensures { λ n. ⌜ n ≡ (number - bias) + (bias - number) ⌝ }
 {
     io::write_all(STDOUT_FILENO, b" ");
     if number < bias {
         io::write_all(STDOUT_FILENO, b"-");
     }
-    let n = distance(number, bias);
-    io::print_decimal(STDOUT_FILENO, n as u64);
+    let n = share::distance(number as u64, bias as u64);
+    io::print_decimal(STDOUT_FILENO, n);
     n
 }
 

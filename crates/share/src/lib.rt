@@ -38,7 +38,7 @@ pub struct Share {
 }
 
 // How far a and b are apart.
-fn distance(a: u64, b: u64) -> u64
+pub fn distance(a: u64, b: u64) -> u64
     ensures { λ d. ⌜ d ≡ (a - b) + (b - a) ⌝ }
 {
     if a < b {

@@ -7,8 +7,8 @@ use Rattle.theory.specs.Tree.{Walked}
 use Rattle.theory.specs.Sheet.{Sheet, firstWalk, secondWalk}
 use Rattle.format.specs.Format.{treeOf}
 use Rattle.format.specs.declared.Sizes.{Sizes}
-use Rattle.threshold.specs.Numbers.{sheetNumber, sheetLimit, sheetWeight, multiplierOf}
 use Rattle.threshold.specs.declared.Threshold.{Threshold}
+use Rattle.sheet.specs.Sheet.{sheetWith}
 pub mod Laws
 
 -- What the first tree, or the second, assumes of the weighed sum, by the limit.
@@ -18,15 +18,7 @@ thresholdFor false limit = record { negated = false; plus = limit; minus = 21474
 
 -- The sheet of these sections, with the nodes of one tree for both.
 abbrev pub oneTree : Sizes → List ℕ → List ℕ → List ℕ → Sheet
-oneTree z nodes numbers leaves =
-    record {
-      numbers = sheetNumber numbers;
-      limit = sheetLimit (z .states) numbers;
-      weights = sheetWeight (z .states) leaves;
-      multiplier = multiplierOf (z .states) leaves;
-      first = treeOf z nodes;
-      second = treeOf z nodes;
-    }
+oneTree z nodes numbers leaves = sheetWith z numbers leaves (treeOf z nodes) (treeOf z nodes)
 
 -- The walk of the first tree, or of the second, with these nodes.
 unfoldable pub walkFor : Protocol → Sizes → List ℕ → List ℕ → List ℕ → Bool → Walked

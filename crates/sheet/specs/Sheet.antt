@@ -3,7 +3,7 @@
 use mathlib.Core.List.{List, [], _∷_}
 use Prim.Native.Nat.{ℕ}
 use Rattle.theory.specs.Judge.{Test, only, judge}
-use Rattle.theory.specs.Tree.{Walked, next, refused}
+use Rattle.theory.specs.Tree.{Tree, Walked, next, refused}
 use Rattle.theory.specs.Sheet.{Sheet, sheetAnswer}
 use Rattle.format.specs.Format.{headerOf, Sections, sectionsOf, protocolOf, treeOf}
 use Rattle.format.specs.declared.Sizes.{Sizes}
@@ -20,17 +20,24 @@ abbrev pub treeSizes : Sizes → ℕ → ℕ → Sizes
 treeSizes z nodes leaves =
     record { version = z .version; states = z .states; rules = z .rules; layers = z .layers; nodes = nodes; leaves = leaves }
 
--- The claim sheet that the bytes stand for.
+-- The claim sheet that the bytes of its numbers and leaves stand for, with these two trees.
+abbrev pub sheetWith : Sizes → List ℕ → List ℕ → Tree → Tree → Sheet
+sheetWith z numbers leaves first second =
+    record {
+      numbers = sheetNumber numbers;
+      limit = sheetLimit (z .states) numbers;
+      weights = sheetWeight (z .states) leaves;
+      multiplier = multiplierOf (z .states) leaves;
+      first = first;
+      second = second;
+    }
+
+-- The claim sheet that all its bytes stand for.
 abbrev pub sheetIn : Sizes → List ℕ → SheetHeader → Sheet
 sheetIn z y k =
-    record {
-      numbers = sheetNumber (numbersIn y k);
-      limit = sheetLimit (z .states) (numbersIn y k);
-      weights = sheetWeight (z .states) (leavesIn y k);
-      multiplier = multiplierOf (z .states) (leavesIn y k);
-      first = treeOf (treeSizes z (k .first) (k .leaves)) (firstNodes y k);
-      second = treeOf (treeSizes z (k .second) (k .leaves)) (secondNodes y k);
-    }
+    sheetWith z (numbersIn y k) (leavesIn y k)
+    (treeOf (treeSizes z (k .first) (k .leaves)) (firstNodes y k))
+    (treeOf (treeSizes z (k .second) (k .leaves)) (secondNodes y k))
 
 -- Test 15.
 abbrev pub sheetTests : Sizes → List ℕ → List ℕ → SheetHeader → List Test

@@ -12,6 +12,7 @@ use Rattle.theory.specs.Bool.Laws.{by-test, is-true, is-false}
 use Rattle.theory.specs.Protocol.{terminal, Shows, Start}
 use Rattle.theory.specs.Leaf.Signed.{plus, minus, le-biased, lt-biased}
 use Rattle.theory.specs.Tree.{Walked, next, refused}
+use Rattle.theory.specs.Tree.Laws.{by-answer}
 use Rattle.theory.specs.Subtree.{TreeStands, TreeFails}
 use Rattle.theory.specs.Subtree.Laws.{number-12-13, place-within}
 use Rattle.theory.specs.Machine.{Call}
@@ -57,10 +58,6 @@ refusalIn (Refused r) = r
 by-checked : {X : Type 0} (a : Checked) → ((f : _) → a ≡ checked.Accepted f → X) → ((r : Refusal) → a ≡ checked.Refused r → X) → X
 by-checked (checked.Accepted f) g h = g f refl
 by-checked (checked.Refused r) g h = h r refl
-
-by-walked : {X : Type 0} (w : Walked) → ((j : ℕ) → w ≡ next j → X) → ((n j : ℕ) → w ≡ refused n j → X) → X
-by-walked (next j) g h = g j refl
-by-walked (refused n j) g h = h n j refl
 
 -- ---- Signed numbers in order
 
@@ -108,10 +105,10 @@ module _ (b y : List ℕ) where
       on-accepted a ∙ sym (trees-checked b h (x .states) (x .rules) y (K b y) fault (walkedSheet answer) refl refl refl t refl refl)
 
   -- An answer is the check's refusal, 15, or what the trees come to.
-  by-answer : {X : Type 0} → ((r : Refusal) → checkOf b ≡ checked.Refused r → checkSheetOf b y ≡ Refused r → X)
+  by-says : {X : Type 0} → ((r : Refusal) → checkOf b ≡ checked.Refused r → checkSheetOf b y ≡ Refused r → X)
       → (IsAccepted b → fault ≡ true → checkSheetOf b y ≡ Refused (refusal 15 0) → X)
       → (IsAccepted b → fault ≡ false → checkSheetOf b y ≡ walkedSheet answer → X) → X
-  by-answer g h i =
+  by-says g h i =
       by-checked (checkOf b)
       (λ f e. by-test fault (λ t. h (f, e) t (on-fault (f, e) t)) (λ t. i (f, e) t (on-sound (f, e) t)))
       (λ r e. g r e (passed-back r e))
@@ -132,13 +129,13 @@ module _ (b y : List ℕ) where
 
   walk-accepted : walkedSheet answer ≡ Accepted → SheetAccepted (P b y) (Z b y)
   walk-accepted e =
-      by-walked answer
+      by-answer answer
       (λ j q. q ∙ ap next (answer-next (P b y) (Z b y) j q))
       (λ n j q. absurd (refused-not (sym (ap walkedSheet q) ∙ e)))
 
   accepted-rules : IsSheetAccepted b y → IsAccepted b × SheetRules b y
   accepted-rules e =
-      by-answer
+      by-says
       (λ r q p. absurd (refused-not (sym p ∙ e)))
       (λ a t p. absurd (refused-not (sym p ∙ e)))
       (λ a t p.
@@ -211,7 +208,7 @@ module _ (b y : List ℕ) where
   walk-refused : (n k : ℕ) → (walkedSheet answer ≡ Refused (refusal n k)) ↔ (answer ≡ refused n k)
   walk-refused n k = (
     λ e.
-        by-walked answer
+        by-answer answer
         (λ j q. absurd (refused-not (sym e ∙ ap walkedSheet q)))
         (λ m j q.
         let s = same-refusal (refusal m j) (refusal n k) (sym (ap walkedSheet q) ∙ e) in
@@ -255,7 +252,7 @@ module _ (b y : List ℕ) where
 
   all-refusals : (r : Refusal) → checkSheetOf b y ≡ Refused r → Refusals r
   all-refusals r e =
-      by-answer
+      by-says
       (λ q c p. inl (c ∙ ap checked.Refused (same-refusal q r (sym p ∙ e))))
       (λ a t p. inr (inl (same-refusal r (refusal 15 0) (sym e ∙ p))))
       (λ a t p.
@@ -266,7 +263,7 @@ module _ (b y : List ℕ) where
   unfolding isOneOf
   refusal-15 = (
     λ e.
-        by-answer
+        by-says
         (λ r c p. absurd (check-not r 15 refl c (ap (λ (x : Refusal). x .number) (same-refusal r (refusal 15 0) (sym p ∙ e)))))
         (λ a t p. (a, λ s. true≢false (sym t ∙ fault-none b y .1 s)))
         (λ a t p.
@@ -305,7 +302,7 @@ module _ (b y : List ℕ) where
       (λ c. codes-tell b [] .check-place (r .number) (r .place) c)
       (⊎-elim
       (λ q. let k : r .place ≡ 0 = ap (λ (x : Refusal). x .place) q in omega arith)
-      (λ k. let s = k .1 in omega (arith, k .3, s .first .1, s .second .1)))
+      (λ k. let s = k .1 in omega (arith, k .3, s .laid .first .1, s .laid .second .1)))
 
   codes : SheetCodes b y
   codes = record {

@@ -23,7 +23,7 @@ use Rattle.threshold.specs.Numbers.{leafIn, sheetWeight, multiplierOf}
 use Rattle.sheetshape.specs.SheetShape.{numbersIn, leavesIn, wrongLength, wrongCounts, wrongOffsets, badNumber, badSheetLeaf, sheetFault}
 use Rattle.claims.specs.OfDocket.{number16}
 use Rattle.claims.specs.OfDocket.Weights.{weight-is}
-use Rattle.claims.specs.OfSheet.{P, S, K, Z, Bytes, number32, leafAt, SheetSound, Reads}
+use Rattle.claims.specs.OfSheet.{P, S, K, Z, Bytes, number32, leafAt, SheetLaid, SheetSound, Reads}
 
 -- ---- Numbers in a section
 
@@ -86,20 +86,7 @@ module _ (b y : List ℕ) where
   abbrev states : List ℕ
   states = sectionsOf b (headerOf b) .states
 
-  -- What the tests of the header say.
-  record HeaderSound : Type 0 where
-    header : 16 ≤ length y
-    whole : length y ≡ K b y .at .total
-    same : K b y .states ≡ n
-    first : (1 ≤ K b y .first) × (K b y .first ≤ 1024)
-    second : (1 ≤ K b y .second) × (K b y .second ≤ 1024)
-    leaves : K b y .leaves ≤ 128
-    numbers-at : K b y .at .numbers ≡ 16
-    nodes-at : K b y .at .nodes ≡ 16 + (2 * n + 4)
-    leaves-at : K b y .at .leaves ≡ K b y .at .nodes + 12 * (K b y .first + K b y .second)
-    total-at : K b y .at .total ≡ leafAt b y (K b y .leaves)
-
-  header-passes : wrongLength y (K b y) || wrongCounts n (K b y) || wrongOffsets (K b y) ≡ false → HeaderSound
+  header-passes : wrongLength y (K b y) || wrongCounts n (K b y) || wrongOffsets (K b y) ≡ false → SheetLaid b y
   header-passes e =
       let k = K b y in
       let a = or-fails _ (wrongOffsets k) e in
@@ -116,7 +103,7 @@ module _ (b y : List ℕ) where
       record {
         header = ltb-false _ _ (ll .0);
         whole = equal (length y) (k .at .total) .0 (ll .1);
-        same = same;
+        states = same;
         first = within 1 1024 _ .0 (c3 .1);
         second = within 1 1024 _ .0 (c2 .1);
         leaves = ltb-false _ _ (c1 .1);
@@ -126,18 +113,18 @@ module _ (b y : List ℕ) where
         total-at = equal (k .at .total) (k .at .leaves + k .leaves * (2 * k .states + 2)) .0 (o1 .1) ∙ rw same;
       }
 
-  passes-header : HeaderSound → wrongLength y (K b y) || wrongCounts n (K b y) || wrongOffsets (K b y) ≡ false
+  passes-header : SheetLaid b y → wrongLength y (K b y) || wrongCounts n (K b y) || wrongOffsets (K b y) ≡ false
   passes-header h =
       let k = K b y in
-      let nodes : k .at .nodes ≡ k .at .numbers + (2 * k .states + 4) = omega (arith, h .nodes-at, h .numbers-at, h .same) in
+      let nodes : k .at .nodes ≡ k .at .numbers + (2 * k .states + 4) = omega (arith, h .nodes-at, h .numbers-at, h .states) in
       let leaves : k .at .leaves ≡ k .at .nodes + (12 * k .first + 12 * k .second) = omega (arith, h .leaves-at) in
-      let total : k .at .total ≡ k .at .leaves + k .leaves * (2 * k .states + 2) = h .total-at ∙ rw (h .same) in
+      let total : k .at .total ≡ k .at .leaves + k .leaves * (2 * k .states + 2) = h .total-at ∙ rw (h .states) in
       or-none (wrongLength y k || wrongCounts n k) (wrongOffsets k)
       (or-none (wrongLength y k) (wrongCounts n k)
       (or-none _ _ (le-ltb (length y) 16 (h .header)) (equal (length y) (k .at .total) .1 (h .whole)))
       (or-none _ _
       (or-none _ _
-      (or-none _ _ (equal (k .states) n .1 (h .same)) (within 1 1024 (k .first) .1 (h .first)))
+      (or-none _ _ (equal (k .states) n .1 (h .states)) (within 1 1024 (k .first) .1 (h .first)))
       (within 1 1024 (k .second) .1 (h .second)))
       (le-ltb 128 (k .leaves) (h .leaves))))
       (or-none _ _
@@ -148,21 +135,21 @@ module _ (b y : List ℕ) where
 
   -- ---- Numbers and leaves, where the header is sound
 
-  module _ (h : HeaderSound) where
+  module _ (h : SheetLaid b y) where
     number-at : (s : ℕ) → s < n → le16 (numbersIn y (K b y)) (2 * s) ≡ le16 y (16 + 2 * s)
     number-at s l =
-        le16-in y (K b y .at .numbers) (2 * K b y .states + 4) (2 * s) (omega (arith, h .same)) ∙ ap (λ (i : ℕ). le16 y (i + 2 * s)) (h .numbers-at)
+        le16-in y (K b y .at .numbers) (2 * K b y .states + 4) (2 * s) (omega (arith, h .states)) ∙ ap (λ (i : ℕ). le16 y (i + 2 * s)) (h .numbers-at)
 
     limit-at : le32 (numbersIn y (K b y)) (2 * n) ≡ le32 y (16 + 2 * n)
     limit-at =
-        le32-in y (K b y .at .numbers) (2 * K b y .states + 4) (2 * n) (omega (arith, h .same)) ∙ ap (λ (i : ℕ). le32 y (i + 2 * n)) (h .numbers-at)
+        le32-in y (K b y .at .numbers) (2 * K b y .states + 4) (2 * n) (omega (arith, h .states)) ∙ ap (λ (i : ℕ). le32 y (i + 2 * n)) (h .numbers-at)
 
     -- Byte i of leaf l.
     leaf-at : (l i : ℕ) → l < K b y .leaves → i + 1 < 2 * n + 2 → le16 (leafIn n (leavesIn y (K b y)) l) i ≡ le16 y (leafAt b y l + i)
     leaf-at l i m j =
         let k = K b y in
         let w = 2 * n + 2 in
-        let all : k .leaves * (2 * k .states + 2) ≡ k .leaves * w = rw (h .same) in
+        let all : k .leaves * (2 * k .states + 2) ≡ k .leaves * w = rw (h .states) in
         let next : suc l * w ≤ k .leaves * w = mul-le-mul-right w (omega arith) in
         let e : k .at .leaves + (l * w + i) ≡ leafAt b y l + i = omega arith in
         le16-in (leavesIn y k) (l * w) w i j
@@ -220,20 +207,6 @@ module _ (b y : List ℕ) where
 
   -- ---- Test 15
 
-  header-of : SheetSound b y → HeaderSound
-  header-of s = record {
-    header = s .header;
-    whole = s .whole;
-    same = s .states;
-    first = s .first;
-    second = s .second;
-    leaves = s .leaves;
-    numbers-at = s .numbers-at;
-    nodes-at = s .nodes-at;
-    leaves-at = s .leaves-at;
-    total-at = s .total-at;
-  }
-
   pub fault-none : (sheetFault (headerOf b .sizes) states y (K b y) ≡ false) ↔ SheetSound b y
   unfolding sheetFault
   fault-none = (
@@ -243,22 +216,13 @@ module _ (b y : List ℕ) where
         let h = header-passes (c .0) in
         let g = leaves-pass h (a .1) in
         record {
-          header = h .header;
-          states = h .same;
-          first = h .first;
-          second = h .second;
-          leaves = h .leaves;
-          numbers-at = h .numbers-at;
-          nodes-at = h .nodes-at;
-          leaves-at = h .leaves-at;
-          total-at = h .total-at;
-          whole = h .whole;
+          laid = h;
           numbers = numbers-pass h (c .1);
           weights = λ l s m j. g l m .0 s j;
           multipliers = λ l m. g l m .1;
         },
     λ s.
-        let h : HeaderSound = header-of s in
+        let h = s .laid in
         or-none _ _
         (or-none _ _ (passes-header h) (pass-numbers h (s .numbers)))
         (pass-leaves h (λ l m. (λ i j. s .weights l i m j, s .multipliers l m))),
@@ -268,7 +232,7 @@ module _ (b y : List ℕ) where
 
   pub reads : SheetSound b y → Bytes y → Reads b y
   reads s bytes =
-      let h = header-of s in
+      let h = s .laid in
       record {
         number-is = λ i l.
             let v = le16 y (16 + 2 * i) in

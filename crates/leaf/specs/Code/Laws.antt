@@ -351,6 +351,15 @@ added-more m f i g l x b h t =
 
 pub ruleset adding = (added-none, added-more)
 
+-- Of n states, one has weights that the facts do not allow; or all below i are allowed, and i is n.
+module _ (m n : ℕ) (f : ℕ → Share) where
+  pub not-all : (s : ℕ) (x : Share) → s < n → ShareIs m (f s) x → not (x .allowed) ≡ true → allBelow n (λ k. f k .allowed) ≡ false
+  not-all s x h e t =
+      is-false _ (λ a. not-both (all-elim n _ a s h) (sym (ap (λ (y : Share). y .allowed) (e .is)) ∙ not-true (x .allowed) t))
+
+  pub all-added : (i g l : ℕ) → i ≡ n → Added m f i g l → allBelow n (λ k. f k .allowed) ≡ true
+  all-added i g l e d = all-intro n (λ k. f k .allowed) (λ k j. d .allowed k (omega arith))
+
 -- ---- Whether the leaf closes
 
 -- The code's answers, in turn.
@@ -382,17 +391,13 @@ module _ (by : Closing) (z : Sizes) (states rules leaves : List ℕ) (l : ℕ) (
 
     -- A state whose weights the facts do not allow.
     pub not-allowed : (s : ℕ) (x : Share) → s < z .states → ShareIs 68719476736 (shares s) x → not (x .allowed) ≡ true → false ≡ closes
-    not-allowed s x h e t =
-        let n : allBelow (z .states) (λ k. shares k .allowed) ≡ false =
-        is-false _ (λ n. not-both (all-elim (z .states) _ n s h) (sym (ap (λ (y : Share). y .allowed) (e .is)) ∙ not-true (x .allowed) t)) in
-        rw (in-shares, n, and-false)
+    not-allowed s x h e t = rw (in-shares, not-all 68719476736 (z .states) shares s x h e t, and-false)
 
     -- All weights are allowed, and the sums are compared.
     pub sums-compared : (i g m : ℕ) (t u y : Bool) → t ≡ kept 0 → not t ≡ false → u ≡ kept 1 → not u ≡ false → i ≤ z .states → z .states ≤ i
         → Added 68719476736 shares i g m → y ≡ relatesBy by g m → not y ≡ closes
     sums-compared i g m t u y et ht eu hu h k d v =
         let n : i ≡ z .states = omega arith in
-        let f = all-intro (z .states) (λ s. shares s .allowed) (λ s j. d .allowed s (omega arith)) in
-        rw (in-shares, ← et, not-false t ht, ← eu, not-false u hu, f, v, d .gains-are, d .losses-are, n)
+        rw (in-shares, ← et, not-false t ht, ← eu, not-false u hu, all-added 68719476736 (z .states) shares i g m n d, v, d .gains-are, d .losses-are, n)
 
 pub ruleset closings = (first-broken, second-broken, not-allowed, sums-compared)

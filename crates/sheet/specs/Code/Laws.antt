@@ -9,6 +9,7 @@ use Rattle.theory.specs.Judge.Laws.{only-hit, only-pass, judge-done}
 use Rattle.theory.specs.Protocol.{Protocol}
 use Rattle.theory.specs.Tree.{Assumption, Walked, next, refused, treeAnswer}
 use Rattle.theory.specs.Subtree.Laws.{tree-fails, place-within}
+use Rattle.theory.specs.Sheet.Laws.{first-refused, then-next, then-refused}
 use Rattle.theory.specs.Sheet.{Sheet, atLeast, atMost, counterexample, firstWalk, secondWalk, sheetAnswer}
 use Rattle.format.specs.Format.{headerOf, sectionsOf, protocolOf, treeOf}
 use Rattle.format.specs.declared.Header.{Header}
@@ -108,11 +109,9 @@ module _ (z zt : Sizes) (states rules y nodes numbers leaves : List ℕ) (k : Sh
 -- ---- Both trees
 
 module _ (P : Protocol) (Z : Sheet) (a : Walk) (ea : walkedOf a ≡ firstWalk P Z) where
-  pub first-refused : (q r : Refusal) (c : SheetChecked) → a ≡ walk.Refused q → r ≡ refusalOf a → c ≡ Refused r → c ≡ walkedSheet (sheetAnswer P Z)
-  unfolding sheetAnswer
-  first-refused q r c u p g =
-      let e : firstWalk P Z ≡ refused (q .number) (q .place) = sym ea ∙ ap walkedOf u in
-      g ∙ ap Refused (p ∙ ap refusalOf u) ∙ sym (rw (e, sheetAnswer))
+  pub stopped-first : (q r : Refusal) (c : SheetChecked) → a ≡ walk.Refused q → r ≡ refusalOf a → c ≡ Refused r → c ≡ walkedSheet (sheetAnswer P Z)
+  stopped-first q r c u p g =
+      g ∙ ap Refused (p ∙ ap refusalOf u) ∙ ap walkedSheet (sym (first-refused P Z (q .number) (q .place) (sym ea ∙ ap walkedOf u)))
 
   module _ (i : ℕ) (ua : a ≡ walk.Next i) (b : Walk) (eb : walkedOf b ≡ secondWalk P Z) where
     first-next : firstWalk P Z ≡ next i
@@ -125,22 +124,17 @@ module _ (P : Protocol) (Z : Sheet) (a : Walk) (ea : walkedOf a ≡ firstWalk P 
         let s : r .place ≡ q .place = ap (λ (x : Refusal). x .place) (p ∙ ap refusalOf u) in
         omega arith
 
-    pub second-refused : (q r x : Refusal) (n : ℕ) (c : SheetChecked) → b ≡ walk.Refused q → r ≡ refusalOf b → x ≡ refusal (r .number) (n + r .place)
+    pub stopped-second : (q r x : Refusal) (n : ℕ) (c : SheetChecked) → b ≡ walk.Refused q → r ≡ refusalOf b → x ≡ refusal (r .number) (n + r .place)
         → n ≡ Z .first .nodes → c ≡ Refused x → c ≡ walkedSheet (sheetAnswer P Z)
-    unfolding sheetAnswer
-    second-refused q r x n c u p h en g =
-        let e : secondWalk P Z ≡ refused (q .number) (q .place) = sym eb ∙ ap walkedOf u in
+    stopped-second q r x n c u p h en g =
         let same : r ≡ q = p ∙ ap refusalOf u in
         let on : x ≡ refusal (q .number) (Z .first .nodes + q .place) = rw (← same, ← en) h in
-        g ∙ ap Refused on ∙ sym (rw (first-next, e, sheetAnswer))
+        g ∙ ap Refused on ∙ ap walkedSheet (sym (then-refused P Z i (q .number) (q .place) first-next (sym eb ∙ ap walkedOf u)))
 
-    pub both-accepted : (j : ℕ) (c : SheetChecked) → b ≡ walk.Next j → c ≡ Accepted → c ≡ walkedSheet (sheetAnswer P Z)
-    unfolding sheetAnswer
-    both-accepted j c u g =
-        let e : secondWalk P Z ≡ next j = sym eb ∙ ap walkedOf u in
-        g ∙ sym (rw (first-next, e, sheetAnswer))
+    pub both-stand : (j : ℕ) (c : SheetChecked) → b ≡ walk.Next j → c ≡ Accepted → c ≡ walkedSheet (sheetAnswer P Z)
+    both-stand j c u g = g ∙ ap walkedSheet (sym (then-next P Z i j first-next (sym eb ∙ ap walkedOf u)))
 
-pub ruleset walking = (first-refused, second-refused, both-accepted)
+pub ruleset walking = (stopped-first, stopped-second, both-stand)
 
 -- ---- The check
 

@@ -33,15 +33,15 @@ module _ (P : Protocol) (Z : Sheet) where
   second-next = tree-next P (counterexample P Z (atMost Z) true) (Z .second)
 
   -- Where the first tree is accepted, the answer is the second's, its nodes numbered on.
-  then-next : (i j : ℕ) → firstWalk P Z ≡ next i → secondWalk P Z ≡ next j → sheetAnswer P Z ≡ next (Z .first .nodes + j)
+  pub then-next : (i j : ℕ) → firstWalk P Z ≡ next i → secondWalk P Z ≡ next j → sheetAnswer P Z ≡ next (Z .first .nodes + j)
   unfolding sheetAnswer
   then-next i j q r = rw (q, r, sheetAnswer)
 
-  then-refused : (i n j : ℕ) → firstWalk P Z ≡ next i → secondWalk P Z ≡ refused n j → sheetAnswer P Z ≡ refused n (Z .first .nodes + j)
+  pub then-refused : (i n j : ℕ) → firstWalk P Z ≡ next i → secondWalk P Z ≡ refused n j → sheetAnswer P Z ≡ refused n (Z .first .nodes + j)
   unfolding sheetAnswer
   then-refused i n j q r = rw (q, r, sheetAnswer)
 
-  first-refused : (n j : ℕ) → firstWalk P Z ≡ refused n j → sheetAnswer P Z ≡ refused n j
+  pub first-refused : (n j : ℕ) → firstWalk P Z ≡ refused n j → sheetAnswer P Z ≡ refused n j
   unfolding sheetAnswer
   first-refused n j q = rw (q, sheetAnswer)
 

@@ -8,9 +8,8 @@ use native.Mathlib.Omega.{arith}
 use lib.Dec.{leb, ltb}
 use borrow.Author.Tests.{not-true, not-false}
 use Rattle.theory.specs.Bool.{member, bit}
-use Rattle.theory.specs.Bool.Laws.{is-false, not-both}
 use Rattle.theory.specs.Below.{allBelow, sumBelow}
-use Rattle.theory.specs.Below.Laws.{all-elim, all-intro, sum-add}
+use Rattle.theory.specs.Below.Laws.{sum-add}
 use Rattle.theory.specs.Protocol.{Protocol, onlyFixed}
 use Rattle.theory.specs.Facts.{Facts}
 use Rattle.theory.specs.Leaf.{extra, spare, nonIncreasing, startFits, times, endFits, surplus, shortfall}
@@ -28,7 +27,7 @@ use Rattle.share.specs.declared.Fixed.{Fixed}
 use Rattle.share.specs.declared.Known.{Known}
 use Rattle.share.specs.declared.Share.{Share}
 use Rattle.leaf.specs.Code.{fixedAt}
-use Rattle.leaf.specs.Code.Laws.{Added}
+use Rattle.leaf.specs.Code.Laws.{Added, not-all, all-added}
 use Rattle.threshold.specs.Numbers.{sheetNumber, leafIn, sheetWeight, multiplierOf}
 use Rattle.threshold.specs.Code.{thresholdOf, closesFor, moduliFor, closesModuloFor, biasOf, bothOf, shareOf}
 use Rattle.threshold.specs.declared.Leaves.{Leaves}
@@ -150,17 +149,13 @@ module _ (t : Threshold) (z : Sizes) (states rules numbers leaves one : List ℕ
     in-shares = rw (in-one, ← hk) (by-shares P (thresholdOf t numbers) F (endWeight z one 0 0) k a b ka kb)
 
     pub not-allowed : (s : ℕ) (x : Share) → s < z .states → ShareIs 1125899906842624 (each s) x → not (x .allowed) ≡ true → false ≡ closes
-    not-allowed s x h e r =
-        let n : allBelow (z .states) (λ i. each i .allowed) ≡ false =
-        is-false _ (λ n. not-both (all-elim (z .states) _ n s h) (sym (ap (λ (y : Share). y .allowed) (e .is)) ∙ not-true (x .allowed) r)) in
-        rw (in-shares, n, and-false)
+    not-allowed s x h e r = rw (in-shares, not-all 1125899906842624 (z .states) each s x h e r, and-false)
 
     pub sums-compared : (i g m c d u v : ℕ) (x : Bool) → x ≡ kept → not x ≡ false → i ≤ z .states → z .states ≤ i → Added 1125899906842624 each i g m
         → Value u (k * t .minus) c → Value v (k * t .plus) d → ltb (m + c) (g + d) ≡ closes
     sums-compared i g m c d u v x ex hx h r ad vc vd =
         let n : i ≡ z .states = omega arith in
-        let f = all-intro (z .states) (λ s. each s .allowed) (λ s j. ad .allowed s (omega arith)) in
-        rw (in-shares, ← ex, not-false x hx, f, vc .is, vd .is, ad .gains-are, ad .losses-are, n)
+        rw (in-shares, ← ex, not-false x hx, all-added 1125899906842624 (z .states) each i g m n ad, vc .is, vd .is, ad .gains-are, ad .losses-are, n)
 
 pub ruleset closings = (rules-broken, not-allowed, sums-compared)
 

@@ -141,7 +141,7 @@ module _ (b y : List ℕ) where
         → verdictOf b (lastOn b c xs) ≡ shown.Agreed false
     -- And every standstill that is potentially reachable (Definition 4.9 of the paper).
     pub potentially : (d : List ℕ) → ReachesPotentially P c d → terminal P d ≡ true → Decided c d
-    -- One of the two cases holds, and not both.
+    -- One of the two cases holds.
     pub one-or-zero : (limitOf Z ≤ℤ weighedSum P Z c) ⊎ (weighedSum P Z c <ℤ limitOf Z)
 
   -- ---- Refusals

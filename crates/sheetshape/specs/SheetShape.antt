@@ -60,7 +60,7 @@ module _ (y : List ℕ) (k : SheetHeader) where
 abbrev pub wrongLength : List ℕ → SheetHeader → Bool
 wrongLength y k = ltb (length y) 16 || not (eqb (length y) (k .at .total))
 
--- There are other states than in the docket, which has n; a tree has not 1 to 1,024 nodes; or there are over 128 leaves.
+-- The number of states is not the docket's, n; a tree has not 1 to 1,024 nodes; or there are over 128 leaves.
 abbrev pub wrongCounts : ℕ → SheetHeader → Bool
 wrongCounts n k = not (eqb (k .states) n) || outside 1 1024 (k .first) || outside 1 1024 (k .second) || ltb 128 (k .leaves)
 

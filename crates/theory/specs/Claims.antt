@@ -1,5 +1,5 @@
--- What is claimed of protocols, ladders, certificates, lists and claim sheets. Statements only: Claims/Theorems.antt says which
--- of them are proved of which protocols, and Claims/Proved.antt proves it.
+-- What is claimed of protocols, ladders, certificates and lists. Statements only: Claims/Theorems.antt says which of them are
+-- proved of which protocols, with what is claimed of claim sheets, and Claims/Proved.antt proves it.
 use mathlib.Core.Path.{_≡_}
 use mathlib.Core.Bool.{Bool, true, false, not, _&&_}
 use mathlib.Core.List.{List, [], _∷_, _++_}
@@ -7,14 +7,11 @@ use mathlib.Core.Logic.{_↔_}
 use Prim.Native.Nat.{ℕ, suc, _+_, _-_, _*_, _≤_, _<_}
 use lib.ListN.{length}
 use lib.Dec.{eqb}
-use lib.Signed.{_≤ℤ_}
 use Rattle.theory.specs.Bool.{imp}
 use Rattle.theory.specs.Protocol.{Protocol, agreed, mixed, count, size, pre, post, enabled, fire, terminal, Shows}
 use Rattle.theory.specs.Protocol.{shows, outputOf, StartRule, Start, Unfixed, fires}
 use Rattle.theory.specs.Protocol.{after, meetings, EachTried, EachMeeting}
 use Rattle.theory.specs.Ladder.{Layers, OrderedPartition, active, QuietBelow, lowest, layered, Alone, Laddered, spread, spreads, rank}
-use Rattle.theory.specs.Facts.{Facts}
-use Rattle.theory.specs.Leaf.{signed}
 use Rattle.theory.specs.Tree.{Tree, next, takes, puts, isTrap, isSiphon, disagreement, treeAnswer}
 use Rattle.theory.specs.Potential.{Potential}
 use Rattle.theory.specs.Machine.{Call, step, run, Reply, stepped, ran, refused, isRefused, admitted, Uses, runNumbers, numbersOf}

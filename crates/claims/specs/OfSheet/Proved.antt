@@ -3,7 +3,7 @@ use mathlib.Core.Path.{_≡_, refl, sym, ap, _∙_, subst}
 use mathlib.Core.Bool.{Bool, true, false, true≢false}
 use mathlib.Core.List.{List, []}
 use mathlib.Core.Logic.{_↔_, _⊎_, inl, inr, ⊎-elim, by-cases}
-use Prim.Native.Nat.{ℕ, _+_, _*_, _%_, _≤_, _<_}
+use Prim.Native.Nat.{ℕ, _+_, _≤_, _<_}
 use native.Mathlib.Decide.{decLt}
 use native.Mathlib.Omega.{arith}
 use lib.IntN.{ℤ}
@@ -16,8 +16,7 @@ use Rattle.theory.specs.Tree.Laws.{by-answer}
 use Rattle.theory.specs.Subtree.{TreeStands, TreeFails}
 use Rattle.theory.specs.Subtree.Laws.{number-12-13, place-within}
 use Rattle.theory.specs.Machine.{Call}
-use Rattle.theory.specs.Machine.Lists.{lastCounts}
-use Rattle.theory.specs.Sheet.{atLeast, atMost, counterexample, limitOf, weighedSum, firstWalk, secondWalk, sheetAnswer}
+use Rattle.theory.specs.Sheet.{counterexample, sheetAnswer}
 use Rattle.theory.specs.Sheet.Claimed.{claimed}
 use Rattle.theory.specs.Sheet.Laws.{answer-next}
 use Rattle.theory.specs.Claims.Theorems.{SheetAccepted}
@@ -27,11 +26,9 @@ use Rattle.shape.specs.Shape.{refusal}
 use Rattle.shape.specs.Sound.{SoundShape}
 use Rattle.shape.specs.declared.Refusal.{Refusal}
 use Rattle.checker.specs.Check.{checkOf}
-use Rattle.checker.specs.Check.Laws.{accepted-sound, refused-not-accepted}
+use Rattle.checker.specs.Check.Laws.{accepted-sound}
 use Rattle.checker.specs.declared.Checked.{Checked}
 use Rattle.checker.specs.declared.Checked.the-variants as checked
-use Rattle.machine.specs.Calls.{verdictOf}
-use Rattle.machine.specs.declared.Verdict.the-variants as shown
 use Rattle.sheetshape.specs.SheetShape.{sheetFault}
 use Rattle.sheet.specs.Sheet.{walkedSheet, sheetCheck, checkSheetOf}
 use Rattle.sheet.specs.Code.Laws.{fault-refused, trees-checked, sheet-follows, docket-refused}
@@ -41,9 +38,9 @@ use Rattle.codes.specs.Codes.{code, sheetCode}
 use Rattle.claims.specs.OfDocket.{IsAccepted, lastOn}
 use Rattle.claims.specs.OfDocket.Says.{demand-1}
 use Rattle.claims.specs.OfDocket.Numbers.{isOneOf, checkNumbers, checkNumber, check-number}
-use Rattle.claims.specs.OfDocket.Codes.{codes-tell, not-zero}
+use Rattle.claims.specs.OfDocket.Codes.{codes-tell}
 use Rattle.claims.specs.OfDocket.Lists.{same-last, still-admitted}
-use Rattle.claims.specs.OfSheet.{P, S, K, Z, SheetSound, IsSheetAccepted, assumed₁, assumed₂, SheetRules, LeafRules, Decided, Decides, SheetRefusals, SheetCodes, OfSheet}
+use Rattle.claims.specs.OfSheet.{P, K, Z, SheetSound, IsSheetAccepted, assumed₁, assumed₂, SheetRules, LeafRules, Decided, Decides, SheetRefusals, SheetCodes, OfSheet}
 use Rattle.claims.specs.OfSheet.Shape.{fault-none, reads}
 
 -- ---- Answers told apart

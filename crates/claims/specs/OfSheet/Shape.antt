@@ -1,6 +1,6 @@
 -- Test 15 passes just where the bytes of the sheet keep every rule, and what its numbers are. Assumes nothing.
-use mathlib.Core.Path.{_≡_, refl, sym, ap, _∙_, subst}
-use mathlib.Core.Bool.{Bool, true, false, not, cond, _&&_, _||_}
+use mathlib.Core.Path.{_≡_, sym, ap, _∙_, subst}
+use mathlib.Core.Bool.{Bool, false, not, cond, _&&_, _||_}
 use mathlib.Core.List.{List}
 use mathlib.Core.Logic.{_↔_, by-cases}
 use Prim.Native.Nat.{ℕ, zero, suc, _+_, _-_, _*_, _%_, _≤_, _<_}
@@ -8,11 +8,11 @@ use native.Mathlib.Decide.{decLt}
 use native.Mathlib.Nat.{mul-le-mul-right}
 use native.Mathlib.Omega.{arith}
 use lib.Dec.{ltb, eqb}
-use lib.IntN.{ℤ, pos, _-ℤ_}
-use lib.ListN.{length, getD, take, drop}
+use lib.IntN.{pos, _-ℤ_}
+use lib.ListN.{length, getD, drop}
 use lib.Seq.{getD-take, getD-drop}
 use borrow.Author.Tests.{ltb-false, le-ltb, lt-ltb, eqb-true, eq-eqb, not-true, not-false}
-use Rattle.theory.specs.Bool.Laws.{by-test, not-both, is-false, or-none, or-fails, and-elim}
+use Rattle.theory.specs.Bool.Laws.{not-both, is-false, or-none, or-fails, and-elim}
 use Rattle.theory.specs.Below.{anyBelow}
 use Rattle.theory.specs.Below.Laws.{any-elim, any-fails}
 use Rattle.theory.specs.Leaf.{signed}
@@ -21,9 +21,8 @@ use Rattle.format.specs.Bytes.{le16, le32, section}
 use Rattle.format.specs.Format.{headerOf, sectionsOf, isInput, biased}
 use Rattle.threshold.specs.Numbers.{leafIn, sheetWeight, multiplierOf}
 use Rattle.sheetshape.specs.SheetShape.{numbersIn, leavesIn, wrongLength, wrongCounts, wrongOffsets, badNumber, badSheetLeaf, sheetFault}
-use Rattle.claims.specs.OfDocket.{number16}
 use Rattle.claims.specs.OfDocket.Weights.{weight-is}
-use Rattle.claims.specs.OfSheet.{P, S, K, Z, Bytes, number32, leafAt, SheetLaid, SheetSound, Reads}
+use Rattle.claims.specs.OfSheet.{P, K, Bytes, leafAt, SheetLaid, SheetSound, Reads}
 
 -- ---- Numbers in a section
 

@@ -7,7 +7,7 @@ use native.Mathlib.Omega.{arith}
 use lib.Dec.{eqb}
 use Rattle.theory.specs.Judge.Laws.{only-hit, only-pass, judge-done}
 use Rattle.theory.specs.Protocol.{Protocol}
-use Rattle.theory.specs.Tree.{Assumption, Walked, next, refused, treeAnswer}
+use Rattle.theory.specs.Tree.{Walked, next, refused, treeAnswer}
 use Rattle.theory.specs.Subtree.Laws.{tree-fails, place-within}
 use Rattle.theory.specs.Sheet.Laws.{first-refused, then-next, then-refused}
 use Rattle.theory.specs.Sheet.{Sheet, atLeast, atMost, counterexample, firstWalk, secondWalk, sheetAnswer}

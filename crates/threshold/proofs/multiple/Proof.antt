@@ -1,5 +1,4 @@
 -- The product is small, because k is below 65,536.
-use borrow.Author.Needs.{needs}
 use native.Mathlib.Omega.{arith}
 use mathlib.Core.Path.{refl}
 use Rattle.threshold.specs.Code.Laws.{multiple-small}

@@ -7,7 +7,6 @@ use native.Mathlib.Nat.{mul-le-mul, le-refl}
 use native.Mathlib.Omega.{arith}
 use lib.Dec.{leb, ltb}
 use borrow.Author.Tests.{not-true, not-false}
-use Rattle.theory.specs.Bool.{member, bit}
 use Rattle.theory.specs.Below.{allBelow, sumBelow}
 use Rattle.theory.specs.Below.Laws.{sum-add}
 use Rattle.theory.specs.Protocol.{Protocol, onlyFixed}

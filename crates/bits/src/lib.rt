@@ -1,4 +1,6 @@
 // Words of 64 bits as sets of the numbers below 64, and sets in four words.
+#![tactic(auto)]
+
 ghost use Rattle.std.specs.Prelude.{◌≡◌, ◌<◌};
 ghost use Rattle.theory.specs.Bool.{member};
 ghost use Rattle.theory.specs.Tree.{set_size};

@@ -1,6 +1,7 @@
 // The counts of a configuration, one 32-bit number a state, lent as a slice: tests 20 and 21, occupied and unfit states,
 // pairs of agents that could meet, rules that are enabled, fire, or are chosen. Where a contract speaks of the docket's
 // protocol the states section is lent; only for unfit states it is read.
+#![tactic(auto)]
 ghost use Rattle.std.specs.Prelude.{◌≡◌, [], ◌≤◌, get_or};
 ghost use Rattle.theory.specs.Bool.{member};
 ghost use Rattle.theory.specs.Below.{sum_below};

@@ -3,6 +3,7 @@
 // then the sheet.
 // Missing bytes of the length are 0; where fewer bytes follow than it says, the docket is what is there, and the sheet is empty. A
 // sheet has at most 65,535 bytes, so a buffer that is full holds no sheet: its length is unlike any header's, which is 15, 0.
+#![tactic(auto)]
 ghost use Rattle.std.specs.Prelude.{◌≡◌, ◌+◌, ◌-◌};
 ghost use Rattle.io.specs.Counts.{IsPrefixLen};
 

@@ -2,6 +2,7 @@
 // place.
 // A docket has at most 65,535 bytes, so a buffer that is full holds no docket: its length is unlike any header's, which is
 // 1, 0.
+#![tactic(auto)]
 use checker::Checked;
 use libc::{STDERR_FILENO, STDIN_FILENO, STDOUT_FILENO};
 

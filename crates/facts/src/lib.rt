@@ -1,6 +1,7 @@
 // The facts that a tree of arguments gathers, as sets in words of 64 bits. Every function is total: a party or a run
 // outside its limits has no facts, and none can be marked there. No word is taken by an index that is computed, so that
 // the facts need not lie in memory.
+#![tactic(auto)]
 ghost use Rattle.std.specs.Prelude.{◌≡◌, ltb};
 ghost use Rattle.theory.specs.Bool.{member};
 ghost use Rattle.theory.specs.Facts.{extend, with_absent, with_present, with_at_most_one, with_unused};

@@ -3,6 +3,7 @@
 // it, state by state; or refused with number and place.
 // Without any byte, n is 0. A docket has at most 65,535 bytes, so a buffer that is full holds no docket: its length is unlike any
 // header's, which is 1, 0.
+#![tactic(auto)]
 ghost use Rattle.std.specs.Prelude.{◌≡◌, min, length};
 
 use libc::{STDERR_FILENO, STDIN_FILENO, STDOUT_FILENO};

@@ -1,6 +1,7 @@
 // The sheet of exact totals: every start with n agents besides the fixed ones is run until it rests. The starts are gone through one
 // after the other, in one buffer of counts; each is copied and run in a second one.
 // tally has no requires: any bytes and any n may be given.
+#![tactic(auto)]
 ghost use Rattle.std.specs.Prelude.{◌≡◌, cond, max, length};
 ghost use Rattle.theory.specs.Bool.{bit};
 ghost use Rattle.theory.specs.Machine.{rest_of, meetings_of};

@@ -32,9 +32,9 @@ member_at [] k l = absurd (omega arith)
 member_at (x ∷ xs) zero l = Memᴰ.head refl
 member_at (x ∷ xs) (suc k) l = Memᴰ.tail (member_at xs k (omega arith))
 
-member-place : (xs : List (List ℕ)) (c : List ℕ) → Memᴰ c xs → (k : ℕ) × (k < length xs) × (get_or xs k [] ≡ c)
-member-place xs c (Memᴰ.head e) = (0, omega arith, sym e)
-member-place xs c (Memᴰ.tail {xs = ys} m) = let t = member-place ys c m in (suc t.0, omega (arith, t.1), t.2)
+member-place : (c : List ℕ) (xs : List (List ℕ)) → Memᴰ c xs → (k : ℕ) × (k < length xs) × (get_or xs k [] ≡ c)
+member-place c xs (Memᴰ.head e) = (0, omega arith, sym e)
+member-place c xs (Memᴰ.tail {xs = ys} m) = let t = member-place c ys m in (suc t.0, omega (arith, t.1), t.2)
 
 -- The members of f n, f (n - 1), .., f 0 behind each other are those of each.
 module _ (f : ℕ → List (List ℕ)) (c : List ℕ) where
@@ -227,7 +227,7 @@ module _ (P : Protocol) (n : ℕ) where
   -- Every such start is a member.
   pub every_start : (c : List ℕ) → StartWith P n c → (k : ℕ) × (k < length (starts P n)) × (start_at P n k ≡ c)
   unfolding starts
-  every_start c h = member-place (starts P n) c (over_member _ _ P.states n c ((start_over c).0 h))
+  every_start c h = member-place c (starts P n) (over_member _ _ P.states n c ((start_over c).0 h))
 
   -- A later one is before it in the lexicographic order: greatest first.
   pub descends : (i j : ℕ) → i < j → j < length (starts P n) → lex_less (start_at P n j) (start_at P n i) ≡ true

@@ -12,7 +12,7 @@ use tree::Walk;
 
 // What is said of an accepted docket: S, R, L, N, the sum of the spreads W, and how many states the widest set of the tree
 // names, M.
-#[derive(Drop)]
+#[derive(Clone, Copy)]
 pub struct Summary {
     pub states: u16,
     pub rules: u16,
@@ -23,7 +23,7 @@ pub struct Summary {
 }
 
 // What the check finds.
-#[derive(Drop)]
+#[derive(Clone, Copy)]
 pub enum Checked {
     Accepted(Summary),
     Refused(Refusal),

@@ -11,7 +11,7 @@ ghost use Rattle.facts.specs.Code.{of_party, states_at, states_at_end, rules_of_
 // Party 0 is the start, 1 and 2 are the runs with their ends. The sets of states have a word a party, those that hold at
 // most one agent a word an end, and the sets of unused rules four words a run, member i of word q being rule 64 q + i.
 // These are 128 bytes, which are copied without a call.
-#[derive(Drop)]
+#[derive(Clone, Copy)]
 pub struct Facts {
     absent: [u64; 3],
     present: [u64; 3],

@@ -11,7 +11,7 @@ ghost use Rattle.format.specs.Format.{node_kind, node_party, node_argument, node
 ghost use Rattle.format.specs.Code.{Value, has_flag};
 
 // The version, and how many records each section has.
-#[derive(Drop)]
+#[derive(Clone, Copy)]
 pub struct Sizes {
     pub version: u16,
     pub states: u16,
@@ -22,7 +22,7 @@ pub struct Sizes {
 }
 
 // Where each section begins, and the total length.
-#[derive(Drop)]
+#[derive(Clone, Copy)]
 pub struct Offsets {
     pub states: u16,
     pub rules: u16,
@@ -32,14 +32,14 @@ pub struct Offsets {
     pub total: u16,
 }
 
-#[derive(Drop)]
+#[derive(Clone, Copy)]
 pub struct Header {
     pub sizes: Sizes,
     pub at: Offsets,
 }
 
 // One rule: before pair p, q, after pair p2, q2, layer.
-#[derive(Drop)]
+#[derive(Clone, Copy)]
 pub struct Rule {
     pub p: usize,
     pub q: usize,
@@ -49,7 +49,7 @@ pub struct Rule {
 }
 
 // What a state may have: output 1, the mark of an input, fixed agents.
-#[derive(Drop)]
+#[derive(Clone, Copy)]
 pub enum Flag {
     Output,
     Input,

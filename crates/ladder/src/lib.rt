@@ -14,7 +14,7 @@ ghost use Rattle.ladder.specs.Code.{in_pair, beyond_of, pre_sequence_of, covers_
 use format::{Rule, Sizes};
 
 // The agents of a group of at most four, by their states; the number of states stands for no agent.
-#[derive(Drop)]
+#[derive(Clone, Copy)]
 struct PreSequence {
     first: usize,
     second: usize,

@@ -16,7 +16,7 @@ use format::{Rule, Sizes};
 use share::{Closing, Fixed, Known, Share};
 
 // A rule, and the weights of its pairs at an end, each plus 20,000; two zeros for a rule that is unused.
-#[derive(Drop)]
+#[derive(Clone, Copy)]
 struct Change {
     rule: u16,
     before: u32,

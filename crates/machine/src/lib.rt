@@ -17,28 +17,28 @@ use format::{Flag, Header, Sizes};
 use shape::{Refusal, Shape};
 
 // What the start test finds.
-#[derive(Drop)]
+#[derive(Clone, Copy)]
 pub enum Started {
     Start,
     Refused(Refusal),
 }
 
 // How many pairs of workers could make a rule's meeting.
-#[derive(Drop)]
+#[derive(Clone, Copy)]
 pub enum Pairs {
     Number(u64),
     Refused(Refusal),
 }
 
 // What a question to be answered by yes or no finds.
-#[derive(Drop)]
+#[derive(Clone, Copy)]
 pub enum YesNo {
     Is(bool),
     Refused(Refusal),
 }
 
 // The verdict: 0 (false) or 1 (true) where all occupied states have it.
-#[derive(Drop)]
+#[derive(Clone, Copy)]
 pub enum Verdict {
     Agreed(bool),
     Mixed,
@@ -46,14 +46,14 @@ pub enum Verdict {
 }
 
 // What a step says.
-#[derive(Drop)]
+#[derive(Clone, Copy)]
 pub enum Stepped {
     Done,
     Refused(Refusal),
 }
 
 // What a run says.
-#[derive(Drop)]
+#[derive(Clone, Copy)]
 pub enum Ran {
     After { steps: u32, rests: bool },
     Refused(Refusal),

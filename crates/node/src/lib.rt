@@ -21,7 +21,7 @@ use threshold::Leaves;
 
 // What a tree refutes: so many runs, each of which ends with a state of the output assumed for it; the states of output 0 and of
 // output 1; and whose leaves the tree has.
-#[derive(Drop)]
+#[derive(Clone, Copy)]
 pub struct Aim {
     pub runs: usize,
     pub first: bool,
@@ -32,7 +32,7 @@ pub struct Aim {
 }
 
 // The fields of a node.
-#[derive(Drop)]
+#[derive(Clone, Copy)]
 pub struct Node {
     pub kind: u8,
     pub party: usize,
@@ -41,7 +41,7 @@ pub struct Node {
 }
 
 // What a node comes to: a refusal's number, or how many children it has.
-#[derive(Drop)]
+#[derive(Clone, Copy)]
 pub enum Outcome {
     Refused(u32),
     Closed,
@@ -51,7 +51,7 @@ pub enum Outcome {
 
 // An outcome, with the facts of two children: of one child only the first count, of none neither. (An enum holds no
 // array, so the facts stand beside it.)
-#[derive(Drop)]
+#[derive(Clone, Copy)]
 pub struct Step {
     pub outcome: Outcome,
     pub first: Facts,
@@ -59,14 +59,14 @@ pub struct Step {
 }
 
 // Of the 64 rules from 64 word on, those that take from a set and those that put into it: member i is rule 64 word + i.
-#[derive(Drop)]
+#[derive(Clone, Copy)]
 struct Flow {
     taking: u64,
     putting: u64,
 }
 
 // Whether a set is a trap, or a siphon, and the rules that touch it, in four words.
-#[derive(Drop)]
+#[derive(Clone, Copy)]
 struct SetTested {
     trap: bool,
     touching: [u64; 4],

@@ -14,7 +14,7 @@ use machine::Ran;
 use shape::{Refusal, Shape, Tested};
 
 // What the call says; the groups' own refusals are among the results.
-#[derive(Drop)]
+#[derive(Clone, Copy)]
 pub enum Paged {
     Done,
     Refused(Refusal),

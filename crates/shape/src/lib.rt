@@ -13,28 +13,28 @@ use facts::Facts;
 use format::{Header, Rule, Sizes};
 
 // A refusal: its number, and its place.
-#[derive(Drop)]
+#[derive(Clone, Copy)]
 pub struct Refusal {
     pub number: u32,
     pub place: u32,
 }
 
 // What tests 1 to 8 find: the header, or the refusal.
-#[derive(Drop)]
+#[derive(Clone, Copy)]
 pub enum Shape {
     Sound(Header),
     Refused(Refusal),
 }
 
 // What tests in a row find: nothing, or the refusal.
-#[derive(Drop)]
+#[derive(Clone, Copy)]
 pub enum Tested {
     Passed,
     Failed(Refusal),
 }
 
 // A property of one record of a section.
-#[derive(Drop)]
+#[derive(Clone, Copy)]
 pub enum Property {
     // A state with other bits set, or with too many fixed agents.
     State,

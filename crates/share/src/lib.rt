@@ -9,14 +9,14 @@ ghost use Rattle.share.specs.Code.{relates_by, joined_of, times_of, known_of, st
 ghost use Rattle.share.specs.Code.{sum_of, share_by, Few, ShareIs};
 
 // How a leaf closes: by sums, or by remainders on division by a modulus.
-#[derive(Drop)]
+#[derive(Clone, Copy)]
 pub enum Closing {
     BySums,
     ByRemainders(u64),
 }
 
 // What the facts say of the states at one party. A state that is absent is not among those present.
-#[derive(Drop)]
+#[derive(Clone, Copy)]
 pub struct Known {
     pub absent: u64,
     pub present: u64,
@@ -24,14 +24,14 @@ pub struct Known {
 }
 
 // The fixed agents of one state, and whether every start has only these there: it has some, and is no input.
-#[derive(Drop)]
+#[derive(Clone, Copy)]
 pub struct Fixed {
     pub agents: u16,
     pub only: bool,
 }
 
 // The share of one state.
-#[derive(Drop)]
+#[derive(Clone, Copy)]
 pub struct Share {
     // Whether the facts allow its weights.
     pub allowed: bool,

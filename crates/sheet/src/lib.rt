@@ -20,7 +20,7 @@ use threshold::{Leaves, Threshold};
 use tree::Walk;
 
 // What the check of a docket with its sheet finds.
-#[derive(Drop)]
+#[derive(Clone, Copy)]
 pub enum SheetChecked {
     Accepted,
     Refused(Refusal),

@@ -9,7 +9,7 @@ ghost use Rattle.sheetshape.specs.SheetShape.{wrong_length, wrong_counts, wrong_
 use format::Sizes;
 
 // Where the sections of a sheet begin, and its total length.
-#[derive(Drop)]
+#[derive(Clone, Copy)]
 pub struct SheetOffsets {
     pub numbers: u16,
     pub nodes: u16,
@@ -18,7 +18,7 @@ pub struct SheetOffsets {
 }
 
 // The header of a sheet: how many states, nodes of the first tree, nodes of the second, and leaves there are.
-#[derive(Drop)]
+#[derive(Clone, Copy)]
 pub struct SheetHeader {
     pub states: u16,
     pub first: u16,

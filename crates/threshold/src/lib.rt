@@ -16,7 +16,7 @@ use format::Sizes;
 use share::{Closing, Known, Share};
 
 // A threshold: the weighed sum, by the numbers of the sheet, or by all of them negated, is at least plus - minus.
-#[derive(Drop)]
+#[derive(Clone, Copy)]
 pub struct Threshold {
     pub negated: bool,
     pub plus: u32,
@@ -24,7 +24,7 @@ pub struct Threshold {
 }
 
 // Whose leaves a tree has: those of a docket, or those of a claim sheet, which close for a threshold.
-#[derive(Drop)]
+#[derive(Clone, Copy)]
 pub enum Leaves {
     OfDocket,
     OfSheet(Threshold),

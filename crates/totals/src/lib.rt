@@ -16,7 +16,7 @@ use machine::{Ran, Verdict};
 use shape::Refusal;
 
 // What is counted: the starts, how many of them rest on 0 and how many on 1, the greatest step total; and how many states there are.
-#[derive(Drop)]
+#[derive(Clone, Copy)]
 pub struct Totals {
     pub states: u16,
     pub starts: u64,
@@ -26,7 +26,7 @@ pub struct Totals {
 }
 
 // What the call says.
-#[derive(Drop)]
+#[derive(Clone, Copy)]
 pub enum Tallied {
     Counted(Totals),
     Refused(Refusal),
@@ -34,7 +34,7 @@ pub enum Tallied {
 
 // The answer, and the counts of the first start that needs the greatest step total, with 0 behind the last state. Where the call is
 // refused they are all 0.
-#[derive(Drop)]
+#[derive(Clone, Copy)]
 pub struct Sheet {
     pub tallied: Tallied,
     pub first: [u32; 64],

@@ -17,7 +17,7 @@ use shape::Refusal;
 use threshold::Leaves;
 
 // Where a walk comes to: the next node, or a refusal.
-#[derive(Drop)]
+#[derive(Clone, Copy)]
 pub enum Walk {
     Next(u16),
     Refused(Refusal),

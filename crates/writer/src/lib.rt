@@ -14,7 +14,7 @@ use format::{Header, Offsets, Sizes};
 use shape::{Refusal, Tested};
 
 // How many bytes each section has.
-#[derive(Drop)]
+#[derive(Clone, Copy)]
 pub struct Lengths {
     pub states: usize,
     pub rules: usize,
@@ -24,7 +24,7 @@ pub struct Lengths {
 }
 
 // What the writer answers: the total length of the docket, or the refusal.
-#[derive(Drop)]
+#[derive(Clone, Copy)]
 pub enum Written {
     Total(usize),
     Refused(Refusal),

@@ -1,0 +1,7 @@
+-- `shape::rule_alike` meets its contract: the fields are those of rule `e`.
+use Rattle.std.proofs.Common.{rules}
+use Rattle.shape.specs.Shape.Marks.{alike_read}
+use Rattle.shape.proofs.rule_alike.Goals as goal
+
+pub returns : goal.returns
+returns c = search (alike_read, rules)

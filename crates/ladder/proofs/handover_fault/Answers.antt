@@ -1,11 +1,12 @@
 -- `ladder::handover_fault` meets its contract: handover holds at each rule below `s`, each rule below `u` is covered for `s`,
 -- and no rule below `v` is fitting for `s` and `u`.
-use Rattle.std.proofs.Common.{◌≡◌, false, inl, inr, ◌<◌, ◌-◌, arith, rules}
+use Rattle.std.proofs.Common.{◌≡◌, false, ◌<◌, ◌-◌, arith, rules}
 use Rattle.theory.specs.Below.Scan.{scan, clear_next, first_at}
 use Rattle.format.specs.Format.{protocol_of, layers_of}
 use Rattle.ladder.specs.Code.{uncovered}
 use Rattle.ladder.specs.Code.Laws.{beginning, sound_pair, none_fits, one_fits, higher_covered, none_covers, covered_passes, uncovered_fails}
 use Rattle.ladder.proofs.handover_fault.Goals as goal
+use Rattle.ladder.proofs.handover_fault.Goals.{then-other-layer+else-v-z+then-rule_fits, else-other-layer}
 
 pub test-init : goal.test-init
 test-init c = search (scan, rules)
@@ -17,7 +18,7 @@ pub search-init : goal.search-init
 search-init c = search (scan, rules)
 
 pub rule_fits-requires : goal.rule_fits-requires
-rule_fits-requires c = (sound_pair _ _ _ c.requires (omega arith), c.states_of-set.ensures)
+rule_fits-requires c = record { sound_pair = sound_pair _ _ _ c.requires (omega arith); set_value = c.states_of-set.ensures }
 
 pub search-preserved : goal.search-preserved
 search-preserved c =
@@ -37,8 +38,8 @@ loop-u-preserved c =
     let higher = higher_covered z states rules s u _ _ c.read_rule-rule.ensures c.read_rule-other.ensures in
     let covered : uncovered (protocol_of z states rules) (layers_of z rules) s u ≡ false =
     elim c.if-other-layer.branch [
-      | inl w ↦ one _ (omega arith) _ _ w.1.ensures w.6.ensures w.7.taken
-      | inr w ↦ higher (omega arith)
+      | then-other-layer+else-v-z+then-rule_fits w ↦ one _ (omega arith) _ _ w.pre_sequence-j.ensures w.rule_fits.ensures w.if-rule_fits.true
+      | else-other-layer w ↦ higher (omega arith)
     ] in
     (omega arith, clear_next _ _ c.loop-u.invariant.1 covered)
 

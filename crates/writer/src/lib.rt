@@ -239,12 +239,14 @@ fn write_tests(
 
 // Copies the part over the bytes of the output from `at` on, and returns where it ends.
 fn put(out: &mut [u8], at: usize, part: &[u8]) -> usize
-    requires* { do ⌜ at + (← ⟦part.len()⟧) ≤ (← ⟦out.len()⟧) ⌝ }
+    requires { at + length part.now ≤ length out.old }
     ensures end { result ≡ at + length part.now }
     ensures room { length out.new ≡ length out.old }
     ensures output { out.new ≡ replaced out.old at part.now }
 {
-    at + bytes::copy(part, &mut out[at..])
+    let end = at + part.len();
+    out[at..end].copy_from_slice(part);
+    end
 }
 
 // Writes the docket of the sections to the beginning of the output, and returns its length.

@@ -72,7 +72,7 @@ module _ (a : Aim) (k : ℕ) where
   unfolding assumed_word
   word_zeros e = rw (← chosen (eqb k 2) a.second a.first, e)
 
-pub ruleset assumedWords = (word_ones, word_zeros)
+pub ruleset assumed_words = (word_ones, word_zeros)
 
 has_output : (v b : Bool) → beq b v ≡ cond v b (not b)
 has_output true true = refl
@@ -144,7 +144,7 @@ module _ (z : Sizes) (rules : List ℕ) (s : SoundRules z rules) (r : ℕ) (h : 
   pub q'_below : get_or rules (5 * r + 3) 0 < 64
   q'_below = lt_of_lt_of_le (s.q'_lt r h) s.states_most
 
-pub ruleset ruleStates = (p_below, q_below, p'_below, q'_below)
+pub ruleset rule_states = (p_below, q_below, p'_below, q'_below)
 
 -- Rules that pass f are gathered in a word: after a turn with the test t, and at the end of the word or of the rules.
 module _ (P : Protocol) (f : ℕ → Bool) (q : ℕ) where

@@ -222,7 +222,7 @@ module _ (b : List ℕ) (h : Header) (limit : ℕ) (c old : List ℕ) (sound : S
         let all : g ≡ length c / S = omega (arith, u.within) in
         (u.counts_are ∙ ap (up_to (run_counts b h limit) S c S c) all, u.results_are ∙ ap (up_to (run_result b h limit) 2 old S c) all)
 
-pub ruleset runningGroups = (run_none, counts_length, results_length, counts_room, results_room, run_more, run_all)
+pub ruleset running_groups = (run_none, counts_length, results_length, counts_room, results_room, run_more, run_all)
 
 -- ---- The answer
 

@@ -58,7 +58,7 @@ module _ (a b c d e f : Bool) where
   unfolding first_below
   first_none ha hb hc hd he hf = rw (ha, hb, hc, hd, he, hf, first_below)
 
-pub ruleset firstTrue = (first_a, first_b, first_c, first_d, first_e, first_f, first_none)
+pub ruleset first_true = (first_a, first_b, first_c, first_d, first_e, first_f, first_none)
 
 -- A true entry at the end changes nothing.
 last_true : (ts : List Bool) → first_below (suc (length ts)) (nth (ts ++ (true ∷ []))) ≡ first_below (length ts) (nth ts)

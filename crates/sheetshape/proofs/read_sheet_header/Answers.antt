@@ -1,0 +1,6 @@
+-- Each field is read where it stands.
+
+use Rattle.sheetshape.proofs.read_sheet_header.Goals as goal
+
+pub returns : goal.returns
+returns c = cc

@@ -1,0 +1,7 @@
+-- `writer::sizes_for` meets its contract: by what the calls ensure.
+use Rattle.std.proofs.Common.{rules}
+use Rattle.writer.specs.Code.Laws.{sizes-cut}
+use Rattle.writer.proofs.sizes_for.Goals as goal
+
+pub returns : goal.returns
+returns c = search (sizes-cut, rules)

@@ -10,5 +10,7 @@ returns c =
     let p₄ = c.put-nodes_at.ensures in
     let p₅ = c.put-leaves_at.ensures in
     let p₆ = c.put.ensures in
-    docket_put _ _ _ p₁.1.1 p₁.0 p₂.1.1 p₂.0 p₃.1.1 p₃.0 p₄.1.1 p₄.0 p₅.1.1 p₅.0 p₆.1.1 p₆.0
-    c.requires.0 c.header_bytes-header.ensures
+    let r =
+    docket_put _ _ _ p₁.output p₁.end p₂.output p₂.end p₃.output p₃.end p₄.output p₄.end p₅.output p₅.end p₆.output p₆.end
+    c.requires.header c.header_bytes-header.ensures in
+    record { total = r.0; output = r.1 }

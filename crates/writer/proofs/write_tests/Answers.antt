@@ -17,12 +17,12 @@ header_for-h-requires c = search (counts-within, rules)
 
 pub returns-then-room-h : goal.returns-then-room-h
 returns-then-room-h c =
-    room_refused _ _ _ _ _ c.requires.0 _ c.length_fault-place.ensures c.if-place-lt5.false
-    _ c.requires.1 _ c.count_fault-place.ensures c.if-place-lt5-2.false _ c.record_tests-tested.ensures
-    c.enum_told-1.given.1 _ c.header_for-h.ensures c.if-room-h.true refl
+    room_refused _ _ _ _ _ c.requires.lengths _ c.length_fault-place.ensures c.if-place-lt5.false
+    _ c.requires.sizes _ c.count_fault-place.ensures c.if-place-lt5-2.false _ c.record_tests-tested.ensures
+    c.in-Passed.is _ c.header_for-h.ensures c.if-room-h.true refl
 
 pub returns : goal.returns
 returns c =
-    write_passed _ _ _ _ _ c.requires.0 _ c.length_fault-place.ensures c.if-place-lt5.false
-    _ c.requires.1 _ c.count_fault-place.ensures c.if-place-lt5-2.false _ c.record_tests-tested.ensures
-    c.enum_told-1.given.1 _ c.header_for-h.ensures c.if-room-h.false refl
+    write_passed _ _ _ _ _ c.requires.lengths _ c.length_fault-place.ensures c.if-place-lt5.false
+    _ c.requires.sizes _ c.count_fault-place.ensures c.if-place-lt5-2.false _ c.record_tests-tested.ensures
+    c.in-Passed.is _ c.header_for-h.ensures c.if-room-h.false refl

@@ -1,0 +1,10 @@
+-- The nodes are those of the second tree.
+use Rattle.sheet.specs.Code.Laws.{tree_sound, second_is}
+use Rattle.std.proofs.Common.{rules}
+use Rattle.sheet.proofs.second_walk.Goals as goal
+
+pub walk_sheet-requires : goal.walk_sheet-requires
+walk_sheet-requires c = search (tree_sound, rules)
+
+pub returns : goal.returns
+returns c = search (second_is, rules)

@@ -15,10 +15,10 @@ slice_bounds-tally_starts-end-3 c = search (part_long, rules)
 
 pub tally_starts-t-requires : goal.tally_starts-t-requires
 tally_starts-t-requires c =
-    let long = part_long c.args.h.sizes.states c.requires.0.sound.limits.states_most in
-    (c.requires.0, (c.requires.1, (long, (long, long))))
+    let long = part_long c.args.h.sizes.states c.requires.docket.sound.limits.states_most in
+    record { docket = c.requires.docket; small = c.requires.small; counts = long; work = long; first = long }
 
 pub returns : goal.returns
 returns c =
     let said = c.tally_starts-t.ensures in
-    sheet_full (protocol_in c.args.docket.now c.args.h) _ _ _ _ _ said.0 said.1
+    sheet_full (protocol_in c.args.docket.now c.args.h) _ _ _ _ _ said.totals said.first

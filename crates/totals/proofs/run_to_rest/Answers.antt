@@ -10,7 +10,7 @@ pub overflow_add-total : goal.overflow_add-total
 overflow_add-total c =
     omega (
       arith,
-      turning_small _ _ c.requires.0 _ c.requires.1 _ _ _ c.loop-going.invariant _ _ _ c.run_in-ran.ensures _ c.steps_in-total.ensures,
+      turning_small _ _ c.requires.docket _ c.requires.counts _ _ _ c.loop-going.invariant _ _ _ c.run_in-ran.ensures _ c.steps_in-total.ensures,
     )
 
 pub loop-going-smaller : goal.loop-going-smaller

@@ -9,7 +9,7 @@ first_start-requires c = search (has_input, tallying, rules)
 pub loop-going-init : goal.loop-going-init
 loop-going-init c =
     (
-      tallying_none _ _ c.requires.0 _ c.states_section-states.ensures _ c.requires.1.0 _ _ c.first_start.ensures,
+      tallying_none _ _ c.requires.docket _ c.states_section-states.ensures _ c.requires.small _ _ c.first_start.ensures,
       search rules,
       search rules,
       search rules,
@@ -17,17 +17,18 @@ loop-going-init c =
 
 pub tally_start-t-requires : goal.tally_start-t-requires
 tally_start-t-requires c =
-    let good = c.requires.0 in
-    let small = c.requires.1.0 in
+    let good = c.requires.docket in
+    let small = c.requires.small in
     let states = c.states_section-states.ensures in
     let on = c.loop-going-test.true in
-    let so_far = c.loop-going.invariant.0 in (
-      search rules,
-      (
-        tallying_group _ _ good _ states _ small _ _ _ _ so_far on,
-        (search rules, (search rules, tallying_room _ _ good _ states _ small _ _ _ _ so_far on)),
-      ),
-    )
+    let so_far = c.loop-going.invariant.0 in
+    record {
+      docket = good;
+      counts = tallying_group _ _ good _ states _ small _ _ _ _ so_far on;
+      work = search rules;
+      first = search rules;
+      room = tallying_room _ _ good _ states _ small _ _ _ _ so_far on;
+    }
 
 pub next_start-going-requires : goal.next_start-going-requires
 next_start-going-requires c = search (has_input, tallying, rules)
@@ -38,11 +39,11 @@ loop-going-smaller c = search (tallying, rules)
 pub loop-going-preserved : goal.loop-going-preserved
 loop-going-preserved c =
     let so_far = c.loop-going.invariant in (
-      tallying_more _ _ c.requires.0 _ c.states_section-states.ensures _ c.requires.1.0 _ _ _ _ so_far.0 c.loop-going-test.true
-          _ c.tally_start-t.ensures.0 _ c.tally_start-t.ensures.1 _ c.next_start-going.ensures.0 _ c.next_start-going.ensures.1,
+      tallying_more _ _ c.requires.docket _ c.states_section-states.ensures _ c.requires.small _ _ _ _ so_far.0 c.loop-going-test.true
+          _ c.tally_start-t.ensures.totals _ c.tally_start-t.ensures.first _ c.next_start-going.ensures.answer _ c.next_start-going.ensures.counts,
       search rules,
-      c.work-1.given ∙ so_far.2,
-      c.first-1.given ∙ so_far.3,
+      search rules,
+      search rules,
     )
 
 pub returns : goal.returns

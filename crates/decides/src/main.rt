@@ -4,77 +4,79 @@
 // Missing bytes of the length are 0; where fewer bytes follow than it says, the docket is what is there, and the sheet is empty. A
 // sheet has at most 65,535 bytes, so a buffer that is full holds no sheet: its length is unlike any header's, which is 15, 0.
 #![tactic(auto)]
-ghost use Rattle.std.specs.Prelude.{◌≡◌, ◌+◌, ◌-◌};
-ghost use Rattle.io.specs.Counts.{IsPrefixLen};
 
-use libc::{STDERR_FILENO, STDIN_FILENO, STDOUT_FILENO};
+ghost use Rattle.std.specs.Prelude.{◌≡◌, ◌≤◌, ◌+◌, ◌-◌, length, IfOk};
+
 use sheet::SheetChecked;
+use std::io;
+use std::io::{Print, Read};
 
-// Reads at most so many bytes of standard input into the buffer, and answers how many.
-fn read_part(buffer: &mut [u8], most: u16) -> usize
-    ensures { IsPrefixLen result buffer.new }
+// Reads at most so many bytes of the input into the buffer, and answers how many.
+fn read_part(input: &mut impl Read, buffer: &mut [u8], most: u16) -> io::Result<usize>
+    ensures { IfOk result (λ n. n ≤ length buffer.new) }
 {
     let end = most as usize;
     if buffer.len() < end {
-        return io::read_full(STDIN_FILENO, buffer);
+        return input::read_full(input, buffer);
     }
-    io::read_full(STDIN_FILENO, &mut buffer[..end])
+    input::read_full(input, &mut buffer[..end])
 }
 
 // Prints a space and the signed number to which the bias was added, and answers the number without its sign.
-fn print_signed(number: u32, bias: u32) -> u64
-    ensures { result ≡ (number - bias) + (bias - number) }
+fn print_signed(rt: &impl Print, number: u32, bias: u32) -> io::Result<u64>
+    ensures { IfOk result (λ n. n ≡ (number - bias) + (bias - number)) }
 {
-    io::write_all(STDOUT_FILENO, b" ");
+    print!(rt; " ")?;
     if number < bias {
-        io::write_all(STDOUT_FILENO, b"-");
+        print!(rt; "-")?;
     }
     let n = share::distance(number as u64, bias as u64);
-    io::print_decimal(STDOUT_FILENO, n);
-    n
+    print!(rt; "{n}")?;
+    Ok(n)
 }
 
 // Prints the numbers of n states, and answers how many there are.
-fn print_numbers(numbers: &[u8], n: u16) -> u16
-    ensures { result ≡ n }
+fn print_numbers(rt: &impl Print, numbers: &[u8], n: u16) -> io::Result<u16>
+    ensures { IfOk result (λ k. k ≡ n) }
 {
     let mut s: u16 = 0;
     while s < n {
-        print_signed(threshold::sheet_number(numbers, s), 32768);
+        print_signed(rt, threshold::sheet_number(numbers, s), 32768)?;
         s += 1;
     }
-    s
+    Ok(s)
 }
 
-fn main() {
+// Reads the docket's length, the docket and the sheet, and answers how many bytes of each there are.
+fn read_both(
+    input: &mut impl Read,
+    docket: &mut [u8],
+    sheet: &mut [u8],
+) -> io::Result<(usize, usize)>
+    ensures { IfOk result (λ ends. (ends.0 ≤ length docket.new) × (ends.1 ≤ length sheet.new)) }
+{
     let mut head = [0u8; 2];
-    io::read_full(STDIN_FILENO, &mut head);
-    let length = format::read16(&head, 0);
-    let mut docket = io::large_buffer();
-    let docket_end = read_part(&mut docket, length);
-    let mut sheet = io::large_buffer();
-    let sheet_end = io::read_full(STDIN_FILENO, &mut sheet);
-    // read_full stops at the end, and at a read that fails, in the same way: one more read answers 0 at the end alone.
-    let mut one = [0u8; 1];
-    if sheet_end < sheet.len() && libc::read(STDIN_FILENO, &mut one) != 0 {
-        io::write_all(STDERR_FILENO, b"decides: standard input cannot be read\n");
-        return;
-    }
-    let checked = sheet::check_sheet(&docket[..docket_end], &sheet[..sheet_end]);
-    match checked {
+    input::read_full(input, &mut head)?;
+    let docket_end = read_part(input, docket, format::read16(&head, 0))?;
+    let sheet_end = input::read_full(input, sheet)?;
+    Ok((docket_end, sheet_end))
+}
+
+fn main(rt: HostRuntime) -> io::Result<()> {
+    let mut docket = [0u8; 65536];
+    let mut sheet = [0u8; 65536];
+    let Ok((docket_end, sheet_end)) = read_both(&mut rt.stdin(), &mut docket, &mut sheet) else {
+        return eprintln!(rt; "decides: standard input cannot be read");
+    };
+    match sheet::check_sheet(&docket[..docket_end], &sheet[..sheet_end]) {
         SheetChecked::Accepted => {
             let header = sheetshape::read_sheet_header(&sheet[..sheet_end]);
             let numbers = sheetshape::numbers_section(&sheet[..sheet_end], header);
-            io::write_all(STDOUT_FILENO, b"accepted");
-            print_numbers(numbers, header.states);
-            print_signed(sheet::sheet_limit(numbers, header.states), 2147483648);
+            print!(rt; "accepted")?;
+            print_numbers(&rt, numbers, header.states)?;
+            print_signed(&rt, sheet::sheet_limit(numbers, header.states), 2147483648)?;
+            println!(rt)
         }
-        SheetChecked::Refused(r) => {
-            io::write_all(STDOUT_FILENO, b"refused ");
-            io::print_decimal(STDOUT_FILENO, r.number as u64);
-            io::write_all(STDOUT_FILENO, b" ");
-            io::print_decimal(STDOUT_FILENO, r.place as u64);
-        }
+        SheetChecked::Refused(r) => println!(rt; "refused {} {}", r.number, r.place),
     }
-    io::write_all(STDOUT_FILENO, b"\n");
 }

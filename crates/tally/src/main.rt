@@ -4,57 +4,44 @@
 // Without any byte, n is 0. A docket has at most 65,535 bytes, so a buffer that is full holds no docket: its length is unlike any
 // header's, which is 1, 0.
 #![tactic(auto)]
-ghost use Rattle.std.specs.Prelude.{◌≡◌, min, length};
 
-use libc::{STDERR_FILENO, STDIN_FILENO, STDOUT_FILENO};
+ghost use Rattle.std.specs.Prelude.{◌≡◌, min, length, IfOk};
+
+use std::io;
+use std::io::Print;
 use totals::Tallied;
 
 // Prints the first n counts, each with a space before it, and answers how many there are.
-fn print_counts(counts: &[u32], n: u16) -> usize
-    ensures { result ≡ min n (length counts.now) }
+fn print_counts(rt: &impl Print, counts: &[u32], n: u16) -> io::Result<usize>
+    ensures { IfOk result (λ k. k ≡ min n (length counts.now)) }
 {
     let mut s: usize = 0;
     while s < counts.len() {
         if (n as usize) <= s {
             break;
         }
-        io::write_all(STDOUT_FILENO, b" ");
-        io::print_decimal(STDOUT_FILENO, counts[s] as u64);
+        print!(rt; " {}", counts[s])?;
         s += 1;
     }
-    s
+    Ok(s)
 }
 
-fn main() {
+fn main(rt: HostRuntime) -> io::Result<()> {
     let mut n = [0u8; 1];
-    io::read_full(STDIN_FILENO, &mut n);
-    let mut buffer = io::large_buffer();
-    let length = io::read_full(STDIN_FILENO, &mut buffer);
-    // read_full stops at the end, and at a read that fails, in the same way: one more read answers 0 at the end alone.
-    let mut one = [0u8; 1];
-    if length < buffer.len() && libc::read(STDIN_FILENO, &mut one) != 0 {
-        io::write_all(STDERR_FILENO, b"tally: standard input cannot be read\n");
-        return;
-    }
+    let mut buffer = [0u8; 65536];
+    let Ok(_) = input::read_full(&mut rt.stdin(), &mut n) else {
+        return eprintln!(rt; "tally: standard input cannot be read");
+    };
+    let Ok(length) = input::read_full(&mut rt.stdin(), &mut buffer) else {
+        return eprintln!(rt; "tally: standard input cannot be read");
+    };
     let sheet = totals::tally(&buffer[..length], n[0]);
-    let tallied = sheet.tallied;
-    match tallied {
+    match sheet.tallied {
         Tallied::Counted(t) => {
-            io::print_decimal(STDOUT_FILENO, t.starts);
-            io::write_all(STDOUT_FILENO, b" ");
-            io::print_decimal(STDOUT_FILENO, t.zeros);
-            io::write_all(STDOUT_FILENO, b" ");
-            io::print_decimal(STDOUT_FILENO, t.ones);
-            io::write_all(STDOUT_FILENO, b" ");
-            io::print_decimal(STDOUT_FILENO, t.most);
-            print_counts(&sheet.first, t.states);
+            print!(rt; "{} {} {} {}", t.starts, t.zeros, t.ones, t.most)?;
+            print_counts(&rt, &sheet.first, t.states)?;
+            println!(rt)
         }
-        Tallied::Refused(r) => {
-            io::write_all(STDOUT_FILENO, b"refused ");
-            io::print_decimal(STDOUT_FILENO, r.number as u64);
-            io::write_all(STDOUT_FILENO, b" ");
-            io::print_decimal(STDOUT_FILENO, r.place as u64);
-        }
+        Tallied::Refused(r) => println!(rt; "refused {} {}", r.number, r.place),
     }
-    io::write_all(STDOUT_FILENO, b"\n");
 }

@@ -7,7 +7,7 @@ use Rattle.theory.specs.Ladder.{spreads}
 use Rattle.theory.specs.Tree.{widest}
 use Rattle.theory.specs.Machine.{run, ran, admitted}
 use Rattle.shape.specs.Shape.{refusal}
-use Rattle.theory.specs.Unfold.{walking, claiming, calling, starting}
+use Rattle.theory.proofs.Unfold.{walking, claiming, calling, starting}
 use Rattle.format.specs.Format.{header_of, Sections, sections_of, protocol_in}
 use Rattle.format.specs.declared.Header.{Header}
 use Rattle.format.specs.Samples.{broadcast, majority, two_outcomes, parity, seeded, quorum}

@@ -1,7 +1,7 @@
 -- Dockets for the samples of documents 01 and 02, and the names that computed cases of bytes unfold. In a docket there is one row
 -- for the header, one each for states and rules, one for the layers or for each, one for each node, one for each leaf.
 use Rattle.std.specs.Prelude.{◌≡◌, refl, List, [], ◌∷◌, ℕ, set}
-use Rattle.theory.specs.Unfold.{bounds}
+use Rattle.theory.proofs.Unfold.{bounds}
 use Rattle.format.specs.Bytes.{le16, le32, le64}
 use Rattle.format.specs.Format.{header_of, sections_of, flags, fixed_of, end_weight, node_kind, node_party, node_argument, node_set}
 

@@ -3,7 +3,7 @@ use Rattle.std.specs.Prelude.{◌≡◌, refl, not, List, [], ◌∷◌, ℕ, se
 use Rattle.theory.specs.Below.{first_below}
 use Rattle.theory.specs.Ladder.{lowers_at, handover_at, spreads}
 use Rattle.format.specs.Format.{header_of, protocol_in, layers_in, weight_in}
-use Rattle.theory.specs.Unfold.{laddering}
+use Rattle.theory.proofs.Unfold.{laddering}
 use Rattle.format.specs.Samples.{reading, broadcast, majority}
 
 -- The values of lowering_fault, handover_fault and spread_sum on the sections of a docket.

@@ -3,7 +3,7 @@ use Rattle.std.specs.Prelude.{◌≡◌, refl, Bool, true, false, List, [], ◌�
 use Rattle.theory.specs.Facts.{Facts, with_absent, with_present, with_at_most_one}
 use Rattle.theory.specs.Leaf.{leaf_closes}
 use Rattle.theory.specs.Remainder.{remainder_closes}
-use Rattle.theory.specs.Unfold.{closing}
+use Rattle.theory.proofs.Unfold.{closing}
 use Rattle.format.specs.Samples.{reading}
 use Rattle.format.specs.Format.{protocol_of, weights_of}
 use Rattle.format.specs.declared.Sizes.{Sizes}

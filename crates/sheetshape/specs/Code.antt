@@ -2,7 +2,7 @@
 use Rattle.std.specs.Prelude.{◌≡◌, Bool, true, false, not, ◌||◌, List, ℕ, ◌+◌, ◌*◌, ◌<◌, ltb, eqb}
 use Rattle.std.proofs.Common.{sym, ap, ◌∙◌, arith}
 use Rattle.theory.specs.Below.{any_below, first_below}
-use Rattle.theory.specs.Below.Scan.{found}
+use Rattle.theory.proofs.Below.Scan.{found}
 use Rattle.format.specs.Bytes.{le16}
 use Rattle.format.specs.Code.{Value}
 use Rattle.format.specs.declared.Sizes.{Sizes}

@@ -2,7 +2,7 @@
 // the next after a start. No list of them is kept.
 #![tactic(auto)]
 ghost use Rattle.std.specs.Prelude.{◌≡◌, true, cond, [], ◌≤◌, ◌<◌, length, ltb};
-ghost use Rattle.theory.specs.Below.Laws.{first_from, end_below, table};
+ghost use Rattle.theory.specs.Below.Ends.{first_from, end_below, table};
 ghost use Rattle.theory.specs.Protocol.{HasInput};
 ghost use Rattle.theory.specs.Starts.{inputs_of as inputCount};
 ghost use Rattle.theory.specs.Starts.Next.{has_spare, givers_end, first_start, next_start};

@@ -1,7 +1,6 @@
 -- Tests, sums and extremes over the numbers below a bound.
 use Rattle.std.specs.Prelude.{◌≡◌, Bool, true, false, ◌&&◌, ◌||◌, ℕ, zero, suc, ◌+◌, ◌<◌, min, max, eqb}
-pub mod Laws
-pub mod Scan
+pub mod Ends
 
 -- No number below i passes.
 abbrev pub Clear : (ℕ → Bool) → ℕ → Type 0

@@ -1,6 +1,5 @@
 -- Tests are Booleans. A set of numbers is a test of each number: the set of s alone is eqb s.
 use Rattle.std.specs.Prelude.{Bool, true, false, not, ◌||◌, ℕ, ◌/◌, ◌%◌, ◌^◌, eqb}
-pub mod Laws
 
 -- If a then b.
 abbrev pub imp : Bool → Bool → Bool

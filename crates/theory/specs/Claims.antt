@@ -10,9 +10,6 @@ use Rattle.theory.specs.Tree.{Tree, next, takes, puts, is_trap, is_siphon, disag
 use Rattle.theory.specs.Potential.{Potential}
 use Rattle.theory.specs.Machine.{Call, step, run, Reply, stepped, ran, refused, is_refused, admitted, Uses, run_numbers, numbers_of}
 pub mod Theorems
-pub mod LayerWords
-pub mod Layered
-pub mod Proved
 
 -- A certificate of P: a ladder that passes (tests 6, 8, 9 and 10), and a tree that is accepted (tests 12 and 13).
 -- leaf_weight l k s is the weight, plus 10,000, of state s at end k in leaf l.

@@ -2,7 +2,6 @@
 -- its end.
 use Rattle.std.specs.Prelude.{Bool, false, not, ◌&&◌, ◌||◌, ℕ, ltb, eqb}
 use Rattle.theory.specs.Protocol.{Protocol}
-pub mod Laws
 
 -- absent k s, present k s, at_most_one k s: state s holds no agent at party k, at least one, at most one. unused k r: rule
 -- r makes no meeting in run k.

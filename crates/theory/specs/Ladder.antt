@@ -5,10 +5,6 @@ use Rattle.theory.specs.Bool.{imp}
 use Rattle.theory.specs.Below.{all_below, any_below, first_below, sum_below, least, greatest}
 use Rattle.theory.specs.Weigh.{weigh}
 use Rattle.theory.specs.Protocol.{Protocol, WellFormed, size, pre, post, enabled, fire, terminal, fires, tried, EachMeeting}
-pub mod Active
-pub mod Handover
-pub mod Rank
-pub mod Lists
 
 -- Layers of the rules: how many there are, and which one rule r is of. Layer 0 is the lowest.
 pub record Layers : Type 0 where

@@ -10,9 +10,6 @@ use Rattle.theory.specs.Bool.{bit}
 use Rattle.theory.specs.Below.{all_below, sum_below}
 use Rattle.theory.specs.Protocol.{Protocol, only_fixed}
 use Rattle.theory.specs.Facts.{Facts}
-pub mod Tests
-pub mod Laws
-pub mod Signed
 
 -- What the weight w of state s, biased by b, adds to a sum that it joins n s times, where it is above 0.
 unfoldable pub extra : (ℕ → ℕ) → ℕ → (ℕ → ℕ) → ℕ → ℕ

@@ -18,5 +18,3 @@ pub mod Sheet
 pub mod Starts
 pub mod Machine
 pub mod Claims
-pub mod Unfold
-pub mod Cases

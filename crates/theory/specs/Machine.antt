@@ -5,8 +5,6 @@ use Rattle.theory.specs.Below.{first_below}
 use Rattle.theory.specs.Protocol.{Protocol, size, enabled, fire, terminal, fires, after}
 use Rattle.theory.specs.Ladder.{Layers, enabled_in, QuietBelow, lowest, spreads}
 pub mod Lists
-pub mod Laws
-pub mod Rest
 
 -- A step names a rule number, a run its limit.
 pub data Call : Type 0 where

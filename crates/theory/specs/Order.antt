@@ -1,6 +1,5 @@
 -- The order in which rules stand (document 02, Job 5), as an order of lists of numbers.
 use Rattle.std.specs.Prelude.{◌≡◌, Bool, true, false, ◌||◌, ◌&&◌, List, [], ◌∷◌, ℕ, suc, ◌<◌, ltb, eqb}
-pub mod Laws
 
 -- The lexicographic order: the first number in which the two lists differ decides; a list that ends there is the first.
 unfoldable pub lex_less : List ℕ → List ℕ → Bool

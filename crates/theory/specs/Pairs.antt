@@ -3,7 +3,6 @@ use Rattle.std.specs.Prelude.{◌≡◌, Bool, true, false, ◌&&◌, ◌||◌, 
 use Rattle.theory.specs.Bool.{bit}
 use Rattle.theory.specs.Below.{sum_below}
 use Rattle.theory.specs.Protocol.{Protocol, count}
-pub mod Laws
 
 -- The number of pairs of agents of c, one in state p and the other in state q. A pair is two different agents, in no order.
 unfoldable pub pairs_between : List ℕ → ℕ → ℕ → ℕ

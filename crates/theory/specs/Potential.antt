@@ -6,9 +6,6 @@ use Rattle.theory.specs.Weigh.{weigh}
 use Rattle.theory.specs.Protocol.{Protocol, count, pre, post}
 use Rattle.theory.specs.Tree.{takes, puts, is_trap, is_siphon}
 pub mod Runs
-pub mod Silent
-pub mod Laws
-pub mod Reached
 
 -- How many agents are in the states of the set A (the paper: C(A)).
 abbrev pub count_in : (ℕ → Bool) → List ℕ → ℕ

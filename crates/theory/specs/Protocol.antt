@@ -4,9 +4,6 @@ use Rattle.std.specs.Bool.{beq}
 use Rattle.theory.specs.Bool.{imp, bit}
 use Rattle.theory.specs.Below.{all_below, first_below}
 use Rattle.theory.specs.Weigh.{weigh}
-pub mod Laws
-pub mod Lists
-pub mod Small
 
 -- Rule r < rules takes one agent from each of p r, q r (document 01: the before pair) and puts one into each of p' r, q'
 -- r (the after pair). A before pair may have several rules.

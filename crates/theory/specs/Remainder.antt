@@ -11,10 +11,6 @@ use Rattle.theory.specs.Below.{all_below}
 use Rattle.theory.specs.Protocol.{Protocol, only_fixed}
 use Rattle.theory.specs.Facts.{Facts}
 use Rattle.theory.specs.Leaf.{extra, spare, total, signed_sum}
-pub mod Congruence
-pub mod Tests
-pub mod Laws
-pub mod Signed
 
 -- Whether a and b are the same modulo m.
 unfoldable pub congruent : ℕ → ℕ → ℕ → Bool

@@ -8,10 +8,7 @@ use Rattle.theory.specs.Protocol.{Protocol, count}
 use Rattle.theory.specs.Facts.{Facts}
 use Rattle.theory.specs.Leaf.{total, non_increasing, start_fits, times, extra, spare, end_fits, surplus, shortfall, signed_sum, upper_sum, lower_sum}
 use Rattle.theory.specs.Tree.{Tree, Assumption, Walked, next, refused, tree_answer}
-pub mod Tests
 pub mod Claimed
-pub mod Laws
-pub mod Signed
 
 -- The numbers of the states and the limit, the leaves with their multipliers, and the two trees, which share the leaves.
 pub record Sheet : Type 0 where

@@ -3,8 +3,6 @@ use Rattle.std.specs.Prelude.{Bool, cond, List, [], ◌∷◌, ◌++◌, map, �
 use Rattle.theory.specs.Bool.{bit}
 use Rattle.theory.specs.Below.{sum_below}
 use Rattle.theory.specs.Protocol.{Protocol}
-pub mod Laws
-pub mod Number
 pub mod Next
 
 -- f n, f (n - 1), .., f 0, behind each other.

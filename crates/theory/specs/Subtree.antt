@@ -4,7 +4,6 @@ use Rattle.std.specs.Prelude.{◌≡◌, true, false, List, [], ◌∷◌, ◌�
 use Rattle.theory.specs.Protocol.{Protocol}
 use Rattle.theory.specs.Facts.{Facts, fresh}
 use Rattle.theory.specs.Tree.{Tree, Assumption, bad, children, ground, node}
-pub mod Laws
 
 -- Children stand one behind the other from node i on, each on its own facts, and node j is the first behind them; R F i k:
 -- the child on F begins at i, and k is the first node behind it.

@@ -7,9 +7,6 @@ use Rattle.theory.specs.Protocol.{Protocol}
 use Rattle.theory.specs.Facts.{Facts, with_absent, with_present, with_at_most_one, with_unused, fresh}
 use Rattle.theory.specs.Leaf.{leaf_closes}
 use Rattle.theory.specs.Remainder.{remainder_closes}
-pub mod Traps
-pub mod Laws
-pub mod Consensus
 
 -- The fields of nodes 0 to nodes - 1, as they stand in the file.
 pub record Tree : Type 0 where

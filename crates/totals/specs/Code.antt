@@ -7,7 +7,7 @@ use Rattle.theory.specs.Protocol.{Protocol, size, terminal}
 use Rattle.theory.specs.Ladder.{Layers, Laddered}
 use Rattle.theory.specs.Starts.{starts, start_at}
 use Rattle.theory.specs.Machine.{Reply, stepped, ran, refused, admitted}
-use Rattle.theory.specs.Machine.Rest.{RunsTo}
+use Rattle.theory.proofs.Machine.Rest.{RunsTo}
 use Rattle.format.specs.Format.{protocol_in, layers_in, weight_in}
 use Rattle.format.specs.declared.Header.{Header}
 use Rattle.shape.specs.Sound.{SoundShape}

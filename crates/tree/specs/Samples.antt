@@ -2,7 +2,7 @@
 use Rattle.std.specs.Prelude.{◌≡◌, refl, List, [], ◌∷◌, ℕ}
 use Rattle.theory.specs.Tree.{Walked, next, refused}
 use Rattle.theory.specs.Tree.{disagreement, tree_answer, widest}
-use Rattle.theory.specs.Unfold.{walking}
+use Rattle.theory.proofs.Unfold.{walking}
 use Rattle.format.specs.Samples.{reading}
 use Rattle.format.specs.Format.{protocol_of, tree_of, weights_of}
 use Rattle.format.specs.declared.Sizes.{Sizes}

@@ -20,10 +20,10 @@ use Rattle.std.proofs.Math.ListN.{get_or-eq_default}
 use Rattle.std.proofs.Math.Seq.{get_or-set_same}
 use borrow.Author.Tests.{eq-eqb, ne_eqb, lt-ltb, le-ltb, ltb-true, ltb-false, eqb-true, eqb-false}
 use Rattle.theory.specs.Bool.{member, imp, bit}
-use Rattle.theory.specs.Bool.Laws.{by_test, not_both, is_false, and_elim, beq_true, eq_beq}
+use Rattle.theory.proofs.Bool.Laws.{by_test, not_both, is_false, and_elim, beq_true, eq_beq}
 use Rattle.theory.specs.Below.{all_below, first_below, sum_below}
-use Rattle.theory.specs.Below.Laws.{all_elim, all_intro, all_fails, sum-front}
-use Rattle.theory.specs.Below.Scan.{at_end}
+use Rattle.theory.proofs.Below.Laws.{all_elim, all_intro, all_fails, sum-front}
+use Rattle.theory.proofs.Below.Scan.{at_end}
 use Rattle.bits.specs.Code.{single_of, full_of, among_of, union_of, with_if, without_of, in_words, in_word, first_words}
 
 -- ---- The lowest digit and the others

@@ -1,6 +1,6 @@
 -- `checker::sections_check` meets its contract: each branch follows the judgement's.
 use Rattle.checker.specs.Check.{sections_check}
-use Rattle.theory.specs.Judge.Laws.{judged}
+use Rattle.theory.proofs.Judge.Laws.{judged}
 use Rattle.std.proofs.Common.{rules}
 use Rattle.checker.proofs.sections_check.Goals as goal
 

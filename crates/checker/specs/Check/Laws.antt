@@ -4,9 +4,9 @@ use Rattle.std.proofs.Math.Path.{refl}
 use Rattle.std.proofs.Common.{sym, ap, ◌∙◌, subst, arith}
 use borrow.Author.Tests.{not-false}
 use Rattle.theory.specs.Below.{sum_below}
-use Rattle.theory.specs.Below.Laws.{all_intro}
+use Rattle.theory.proofs.Below.Laws.{all_intro}
 use Rattle.theory.specs.Judge.{Passes}
-use Rattle.theory.specs.Judge.Laws.{judge-passes}
+use Rattle.theory.proofs.Judge.Laws.{judge-passes}
 use Rattle.theory.specs.Ladder.{lowers_at, lowering, handover_at, handover, Laddered, spread}
 use Rattle.theory.specs.Tree.{Walked, widest}
 use Rattle.format.specs.Format.{header_of, Sections, sections, sections_of, layer_weight, protocol_of, layers_of, tree_of, protocol_in, layers_in, weight_in}

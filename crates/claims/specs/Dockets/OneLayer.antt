@@ -9,12 +9,12 @@ use native.Mathlib.Omega.{arith}
 use Rattle.std.proofs.Math.Decide.{dec_lt}
 use borrow.Author.Tests.{ltb-true, le-ltb, not-false}
 use Rattle.theory.specs.Below.{any_below, first_below, Clear}
-use Rattle.theory.specs.Below.Scan.{first_clear}
+use Rattle.theory.proofs.Below.Scan.{first_clear}
 use Rattle.theory.specs.Ladder.{lowers_at}
 use Rattle.format.specs.Bytes.{le16, le32}
 use Rattle.format.specs.Format.{header_of, sections_of, protocol_in, layers_in, weight_in}
 use Rattle.format.specs.declared.Header.{Header}
-use Rattle.theory.specs.Judge.Laws.{judge_hit, passes-judge}
+use Rattle.theory.proofs.Judge.Laws.{judge_hit, passes-judge}
 use Rattle.shape.specs.Shape.{refusal, by_shape, bad_state, repeats, out_of_order, bad_layer, shape_tests, header_shape, shape_of}
 use Rattle.shape.specs.declared.Shape.TheVariants as shape
 use Rattle.checker.specs.Check.{sections_check, check_of}

@@ -6,12 +6,12 @@ use Rattle.std.proofs.Math.Bool.{true, false}
 use Rattle.std.proofs.Math.Logic.{inl}
 use native.Mathlib.Omega.{arith}
 use borrow.Author.Tests.{ltb-true}
-use Rattle.theory.specs.Bool.Laws.{by_test}
+use Rattle.theory.proofs.Bool.Laws.{by_test}
 use Rattle.theory.specs.Judge.{Test, FirstFits}
-use Rattle.theory.specs.Judge.Laws.{fits_split, fits_none}
+use Rattle.theory.proofs.Judge.Laws.{fits_split, fits_none}
 use Rattle.theory.specs.Protocol as protocol
 use Rattle.theory.specs.Protocol.{enabled, terminal, output_of, start_test}
-use Rattle.theory.specs.Subtree.Laws.{place-within}
+use Rattle.theory.proofs.Subtree.Laws.{place-within}
 use Rattle.theory.specs.Machine.{Call, step, run, Reply, stepped, ran, refused, is_sized, is_within, admit, step_reply, run_reply, reply}
 use Rattle.format.specs.Format.{header_of, sections_of, protocol_in, layers_in}
 use Rattle.format.specs.declared.Header.{Header}

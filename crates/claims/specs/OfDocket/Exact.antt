@@ -4,19 +4,19 @@ use Rattle.std.proofs.Common.{sym, ◌∙◌, arith}
 use Rattle.std.proofs.Math.Path.{ap}
 use Rattle.std.proofs.Math.Bool.{not}
 use borrow.Author.Tests.{ltb-true, lt-ltb, eqb-true, not-false}
-use Rattle.theory.specs.Bool.Laws.{by_test, is_false}
-use Rattle.theory.specs.Below.Laws.{all_elim, all_intro}
+use Rattle.theory.proofs.Bool.Laws.{by_test, is_false}
+use Rattle.theory.proofs.Below.Laws.{all_elim, all_intro}
 use Rattle.theory.specs.Judge.{Passes}
-use Rattle.theory.specs.Judge.Laws.{passes-judge}
+use Rattle.theory.proofs.Judge.Laws.{passes-judge}
 use Rattle.theory.specs.Protocol.{Protocol}
 use Rattle.theory.specs.Ladder.{Layers, lowers_at, lowering, handover_at, handover, Laddered}
-use Rattle.theory.specs.Ladder.Handover.{handover_exact}
+use Rattle.theory.proofs.Ladder.Handover.{handover_exact}
 use Rattle.theory.specs.Facts.{fresh}
 use Rattle.theory.specs.Tree.{Walked, next, refused, Tree, Assumption, tree_at, tree_answer}
-use Rattle.theory.specs.Tree.Laws.{refused_not_next}
+use Rattle.theory.proofs.Tree.Laws.{refused_not_next}
 use Rattle.theory.specs.Subtree.{TreeStands}
 use Rattle.theory.specs.Claims.{Certified}
-use Rattle.theory.specs.Claims.Proved.{theorems}
+use Rattle.theory.proofs.Claims.Proved.{theorems}
 use Rattle.format.specs.Format.{Sections, sections_of, protocol_in, layers_in, weight_in, weights_of}
 use Rattle.format.specs.declared.Header.{Header}
 use Rattle.shape.specs.Shape.{by_shape}

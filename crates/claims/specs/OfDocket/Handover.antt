@@ -2,11 +2,11 @@
 use Rattle.std.specs.Prelude.{◌≡◌, refl, true, List, [], ◌∷◌, ℕ, ◌<◌}
 use Rattle.std.proofs.Common.{sym, ap, ◌∙◌, subst, true≢false, ⊎_elim, arith}
 use Rattle.std.proofs.lemmas.Bool.{not-true, not-false}
-use Rattle.theory.specs.Judge.Laws.{refused_by, fits-here, fits_past, fits_other}
+use Rattle.theory.proofs.Judge.Laws.{refused_by, fits-here, fits_past, fits_other}
 use Rattle.theory.specs.Ladder.{Broken}
-use Rattle.theory.specs.Ladder.Handover.{handover_at_fails, handover_at_exact}
-use Rattle.theory.specs.Subtree.Laws.{number_12_13}
-use Rattle.theory.specs.Claims.Proved.{theorems}
+use Rattle.theory.proofs.Ladder.Handover.{handover_at_fails, handover_at_exact}
+use Rattle.theory.proofs.Subtree.Laws.{number_12_13}
+use Rattle.theory.proofs.Claims.Proved.{theorems}
 use Rattle.format.specs.Format.{header_of, sections_of, protocol_in, layers_in}
 use Rattle.format.specs.declared.Header.{Header}
 use Rattle.shape.specs.Shape.{by_shape, shape_of}

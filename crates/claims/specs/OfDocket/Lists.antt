@@ -7,9 +7,9 @@ use Rattle.theory.specs.Protocol.{Protocol, Start, terminal}
 use Rattle.theory.specs.Ladder.{Layers}
 use Rattle.theory.specs.Machine.Lists.{last_counts, reported}
 use Rattle.theory.specs.Machine.{Call, Reply, refused, meetings_of, is_sized, admitted, reply, counts_after, numbers_of}
-use Rattle.theory.specs.Machine.Laws.{admitted-last, last_counts-after}
+use Rattle.theory.proofs.Machine.Laws.{admitted-last, last_counts-after}
 use Rattle.theory.specs.Claims.{Reaches, Consensus, OneOutput, AllRefused, CallsMake, CallsRest}
-use Rattle.theory.specs.Claims.Proved.{theorems}
+use Rattle.theory.proofs.Claims.Proved.{theorems}
 use Rattle.format.specs.Format.{protocol_in, layers_in, weight_in}
 use Rattle.format.specs.declared.Header.{Header}
 use Rattle.shape.specs.Shape.{refusal, by_shape, shape_of}

@@ -7,22 +7,22 @@ use Rattle.std.proofs.Math.Bool.{true}
 use mathlib.Core.List.{List, [], ◌∷◌, ◌++◌}
 use Prim.Native.Nat.{ℕ, zero, suc}
 use Rattle.std.proofs.lemmas.Bool.{not-true}
-use Rattle.theory.specs.Bool.Laws.{by_test, or_left, or_right, or_elim}
+use Rattle.theory.proofs.Bool.Laws.{by_test, or_left, or_right, or_elim}
 use Rattle.theory.specs.Judge.{Test, place, judge, FirstFits}
-use Rattle.theory.specs.Judge.Laws.{refused_by, fits_refuses}
+use Rattle.theory.proofs.Judge.Laws.{refused_by, fits_refuses}
 use Rattle.theory.specs.Protocol as protocol
 use Rattle.theory.specs.Protocol.{Protocol, enabled, terminal, output_of, start_test, after}
-use Rattle.theory.specs.Protocol.Lists.{tried_not}
+use Rattle.theory.proofs.Protocol.Lists.{tried_not}
 use Rattle.theory.specs.Pairs.{pairs}
 use Rattle.theory.specs.Ladder.{Layers}
 use Rattle.theory.specs.Facts.{Facts, fresh}
 use Rattle.theory.specs.Tree as theory
 use Rattle.theory.specs.Tree.{Walked, next, Tree, Assumption, disagreement, refusal_number, forest, children, ground, node, tree_at, tree_answer}
 use Rattle.theory.specs.Tree.{Node}
-use Rattle.theory.specs.Subtree.Laws.{by_fields}
+use Rattle.theory.proofs.Subtree.Laws.{by_fields}
 use Rattle.theory.specs.Machine.{Call, step, run, Reply, stepped, ran, refused, is_refused, is_sized, is_within, admitted, admit}
 use Rattle.theory.specs.Machine.{step_reply, run_reply, reply, counts_after}
-use Rattle.theory.specs.Machine.Laws.{adds_off, adds_on, reply_step, reply_run, step_refused}
+use Rattle.theory.proofs.Machine.Laws.{adds_off, adds_on, reply_step, reply_run, step_refused}
 use Rattle.format.specs.Format.{header_of, sections_of, protocol_in, layers_in, tree_of, weights_of}
 use Rattle.format.specs.declared.Header.{Header}
 use Rattle.shape.specs.Shape.{refusal, shape_tests, header_shape, shape_of, by_shape}

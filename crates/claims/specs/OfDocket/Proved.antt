@@ -1,7 +1,7 @@
 -- The claims about a docket are proved. Assumes nothing.
 use Rattle.std.proofs.Common.{subst, arith, ne_eqb}
 use Rattle.std.specs.Prelude.{List, ℕ}
-use Rattle.theory.specs.Claims.Proved.{theorems}
+use Rattle.theory.proofs.Claims.Proved.{theorems}
 use Rattle.format.specs.Format.{header_of, sections_of, protocol_in, weight_in, weights_of}
 use Rattle.claims.specs.OfDocket.{Rules, IsAccepted, OfDocket}
 use Rattle.claims.specs.OfDocket.Exact.{certified, laddered, demand_2}

@@ -3,10 +3,10 @@ use Rattle.std.specs.Prelude.{◌≡◌, List, ◌↔◌, ◌⊎◌, ℕ}
 use Rattle.std.proofs.Math.Path.{sym}
 use Rattle.std.proofs.Common.{ap, ◌∙◌, inl, inr, ⊎_elim}
 use Rattle.theory.specs.Judge.{judge, Passes, FirstFits}
-use Rattle.theory.specs.Judge.Laws.{judge_map, judge-append, passes-judge, refused_by, fits_refuses}
+use Rattle.theory.proofs.Judge.Laws.{judge_map, judge-append, passes-judge, refused_by, fits_refuses}
 use Rattle.theory.specs.Tree.{Walked, next, refused}
 use Rattle.theory.specs.Subtree.{TreeFails}
-use Rattle.theory.specs.Claims.Proved.{theorems}
+use Rattle.theory.proofs.Claims.Proved.{theorems}
 use Rattle.format.specs.Format.{header_of, sections_of, protocol_in}
 use Rattle.shape.specs.Shape.{refusal, shape_tests, header_shape, shape_of, by_shape}
 use Rattle.shape.specs.declared.Shape.TheVariants as shape

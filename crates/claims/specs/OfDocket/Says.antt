@@ -4,14 +4,14 @@ use Rattle.std.specs.Prelude.{refl, Bool, false, cond, List, ◌↔◌, ℕ, ◌
 use Rattle.std.proofs.Common.{sym, ◌∙◌, arith}
 use Rattle.std.proofs.Math.Bool.{true}
 use borrow.Author.Tests.{ltb-true, ltb-false, lt-ltb, le-ltb, leb-true}
-use Rattle.theory.specs.Bool.Laws.{by_test, not_both, is_true, and_elim}
-use Rattle.theory.specs.Below.Laws.{first_le, first_is, first_passes, first-lowest}
+use Rattle.theory.proofs.Bool.Laws.{by_test, not_both, is_true, and_elim}
+use Rattle.theory.proofs.Below.Laws.{first_le, first_is, first_passes, first-lowest}
 use Rattle.theory.specs.Protocol as theory
 use Rattle.theory.specs.Protocol.{Protocol, WellFormed, size, output_of, unfit, Shows, Start, start_test}
-use Rattle.theory.specs.Protocol.Laws.{fit_rule}
+use Rattle.theory.proofs.Protocol.Laws.{fit_rule}
 use Rattle.theory.specs.Machine.{step, run, step_reply, run_reply, reply, is_sized, is_within, admitted, admit}
-use Rattle.theory.specs.Machine.Laws.{admitted_sized, step_fires, step_no_rule, step_not_enabled}
-use Rattle.theory.specs.Claims.Proved.{theorems}
+use Rattle.theory.proofs.Machine.Laws.{admitted_sized, step_fires, step_no_rule, step_not_enabled}
+use Rattle.theory.proofs.Claims.Proved.{theorems}
 use Rattle.format.specs.Format.{protocol_in, layers_in}
 use Rattle.format.specs.declared.Header.{Header}
 use Rattle.shape.specs.Shape.{refusal, shape_of, by_shape}

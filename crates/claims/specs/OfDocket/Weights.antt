@@ -4,7 +4,7 @@ use Rattle.std.proofs.Common.{ap, ◌∙◌, arith, lt-ltb, le-ltb}
 use Rattle.std.proofs.Math.Logic.{by_cases}
 use Rattle.std.proofs.Math.Decide.{dec_lt}
 use Rattle.theory.specs.Leaf.{signed}
-use Rattle.theory.specs.Leaf.Signed.{plus, minus, parts_same, sub_parts, le_parts, weight-parts}
+use Rattle.theory.proofs.Leaf.Signed.{plus, minus, parts_same, sub_parts, le_parts, weight-parts}
 use Rattle.format.specs.Format.{biased}
 use Rattle.claims.specs.OfDocket.{number16}
 

@@ -9,19 +9,19 @@ use Rattle.std.proofs.Math.Logic.{⊎_elim, ⊎_map, by_cases}
 use Prim.Native.Nat.{ℕ, zero, suc, ◌+◌, ◌*◌, ◌/◌, ◌%◌, ◌<◌}
 use Rattle.std.proofs.Math.Decide.{dec_lt}
 use borrow.Author.Tests.{eq-eqb, eqb-true, not-true, not-false}
-use Rattle.theory.specs.Bool.Laws.{not_both, is_false, and_intro, and_elim}
+use Rattle.theory.proofs.Bool.Laws.{not_both, is_false, and_intro, and_elim}
 use Rattle.theory.specs.Below.{Clear, first_below}
-use Rattle.theory.specs.Below.Laws.{any_intro, first_passes, first-lowest, first_min}
-use Rattle.theory.specs.Below.Scan.{first_clear}
+use Rattle.theory.proofs.Below.Laws.{any_intro, first_passes, first-lowest, first_min}
+use Rattle.theory.proofs.Below.Scan.{first_clear}
 use Rattle.theory.specs.Judge.{Test, Passes, FirstFits}
-use Rattle.theory.specs.Judge.Laws.{fits-here, numbered, fits_past, fits_other}
+use Rattle.theory.proofs.Judge.Laws.{fits-here, numbered, fits_past, fits_other}
 use Rattle.theory.specs.Protocol.{enabled}
-use Rattle.theory.specs.Protocol.Lists.{fires_rule}
-use Rattle.theory.specs.Ladder.Active.{active_intro}
-use Rattle.theory.specs.Subtree.Laws.{number_12_13}
+use Rattle.theory.proofs.Protocol.Lists.{fires_rule}
+use Rattle.theory.proofs.Ladder.Active.{active_intro}
+use Rattle.theory.proofs.Subtree.Laws.{number_12_13}
 use Rattle.theory.specs.Machine.{Uses}
 use Rattle.theory.specs.Order.{Ascending}
-use Rattle.theory.specs.Order.Laws.{less_elim, less_is, less_irreflexive, less_transitive, less_trichotomous, ascends, Among, same_length, same_members}
+use Rattle.theory.proofs.Order.Laws.{less_elim, less_is, less_irreflexive, less_transitive, less_trichotomous, ascends, Among, same_length, same_members}
 use Rattle.format.specs.Format.{header_of, sections_of, rule_of, rule_key, protocol_in, layers_in}
 use Rattle.format.specs.declared.Header.{Header}
 use Rattle.format.specs.declared.Rule.{Rule}

@@ -11,14 +11,14 @@ use native.Mathlib.Omega.{arith}
 use borrow.Author.Tests.{eqb-true, eqb-false, eq-eqb, ne_eqb, not-false}
 use Rattle.std.proofs.Math.ListN.{length}
 use Rattle.theory.specs.Bool.{bit}
-use Rattle.theory.specs.Bool.Laws.{by_test, is_true, is_false, or_none, or_fails, and_intro}
+use Rattle.theory.proofs.Bool.Laws.{by_test, is_true, is_false, or_none, or_fails, and_intro}
 use Rattle.theory.specs.Judge.{Test, judge, Passes, FirstFits}
-use Rattle.theory.specs.Judge.Laws.{judge_map, judge-append, judge-passes, passes-judge, judge_done, only_hit, only_pass}
-use Rattle.theory.specs.Judge.Laws.{refused_by, fits_refuses, passes-front}
+use Rattle.theory.proofs.Judge.Laws.{judge_map, judge-append, judge-passes, passes-judge, judge_done, only_hit, only_pass}
+use Rattle.theory.proofs.Judge.Laws.{refused_by, fits_refuses, passes-front}
 use Rattle.theory.specs.Protocol.{Protocol, size, terminal, Start, Shows}
 use Rattle.theory.specs.Ladder.{Layers, QuietBelow, layered, rank}
 use Rattle.theory.specs.Machine.{Call, run, Reply, ran, refused, meetings_of, is_sized, is_within, admitted, numbers_of}
-use Rattle.theory.specs.Machine.Laws.{runs_layered}
+use Rattle.theory.proofs.Machine.Laws.{runs_layered}
 use Rattle.theory.specs.Claims.{Rests, RunMakes}
 use Rattle.format.specs.Format.{header_of, protocol_in, layers_in, weight_in}
 use Rattle.format.specs.declared.Header.{Header}

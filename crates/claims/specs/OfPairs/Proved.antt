@@ -5,13 +5,13 @@ use Rattle.std.proofs.Common.{sym, ◌∙◌, arith, lt-ltb}
 use Rattle.std.proofs.Math.Bool.{true, not}
 use mathlib.Core.List.{List, [], ◌∷◌}
 use Prim.Native.Nat.{ℕ, zero, suc, ◌≤◌, ◌<◌}
-use Rattle.theory.specs.Bool.Laws.{is_true, is_false, and_intro}
+use Rattle.theory.proofs.Bool.Laws.{is_true, is_false, and_intro}
 use Rattle.theory.specs.Below.{sum_below}
-use Rattle.theory.specs.Below.Laws.{all_intro, sum_mono, sum_const}
+use Rattle.theory.proofs.Below.Laws.{all_intro, sum_mono, sum_const}
 use Rattle.theory.specs.Protocol.{Protocol, enabled, terminal, fires}
-use Rattle.theory.specs.Protocol.Laws.{terminal_off}
+use Rattle.theory.proofs.Protocol.Laws.{terminal_off}
 use Rattle.theory.specs.Pairs.{pairs}
-use Rattle.theory.specs.Pairs.Laws.{pairs-most, apart_pairs-most, no_pairs, pairs-counted, sum_counted, some_agents}
+use Rattle.theory.proofs.Pairs.Laws.{pairs-most, apart_pairs-most, no_pairs, pairs-counted, sum_counted, some_agents}
 use Rattle.theory.specs.Machine.{step, run, stepped, ran, refused, is_refused, admitted}
 use Rattle.format.specs.Format.{protocol_in}
 use Rattle.format.specs.declared.Header.{Header}

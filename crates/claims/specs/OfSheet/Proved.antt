@@ -5,19 +5,19 @@ use Rattle.std.proofs.Common.{sym, ◌∙◌, subst, inl, inr, arith}
 use Rattle.std.proofs.Math.Bool.{true≢false}
 use Rattle.std.proofs.Math.Logic.{⊎_elim, by_cases}
 use Rattle.std.proofs.Math.Decide.{dec_lt}
-use Rattle.theory.specs.Bool.Laws.{by_test, is_true, is_false}
+use Rattle.theory.proofs.Bool.Laws.{by_test, is_true, is_false}
 use Rattle.theory.specs.Protocol.{terminal, Shows, Start}
-use Rattle.theory.specs.Leaf.Signed.{plus, minus, le_biased, lt_biased}
+use Rattle.theory.proofs.Leaf.Signed.{plus, minus, le_biased, lt_biased}
 use Rattle.theory.specs.Tree.{Walked, next, refused}
-use Rattle.theory.specs.Tree.Laws.{by_answer}
+use Rattle.theory.proofs.Tree.Laws.{by_answer}
 use Rattle.theory.specs.Subtree.{TreeStands, TreeFails}
-use Rattle.theory.specs.Subtree.Laws.{number_12_13, place-within}
+use Rattle.theory.proofs.Subtree.Laws.{number_12_13, place-within}
 use Rattle.theory.specs.Machine.{Call}
 use Rattle.theory.specs.Sheet.{counterexample, sheet_answer}
 use Rattle.theory.specs.Sheet.Claimed.{claimed}
-use Rattle.theory.specs.Sheet.Laws.{answer_next}
+use Rattle.theory.proofs.Sheet.Laws.{answer_next}
 use Rattle.theory.specs.Claims.Theorems.{SheetAccepted}
-use Rattle.theory.specs.Claims.Proved.{theorems}
+use Rattle.theory.proofs.Claims.Proved.{theorems}
 use Rattle.format.specs.Format.{header_of, sections_of, layers_in}
 use Rattle.shape.specs.Shape.{refusal}
 use Rattle.shape.specs.Sound.{SoundShape}

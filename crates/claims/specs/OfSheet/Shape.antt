@@ -7,11 +7,11 @@ use Rattle.std.proofs.Math.Logic.{by_cases}
 use Rattle.std.proofs.Math.Decide.{dec_lt}
 use Rattle.std.proofs.Math.Dec.{ltb}
 use Rattle.std.proofs.lemmas.Bool.{not-true, not-false}
-use Rattle.theory.specs.Bool.Laws.{not_both, is_false, or_none, or_fails, and_elim}
+use Rattle.theory.proofs.Bool.Laws.{not_both, is_false, or_none, or_fails, and_elim}
 use Rattle.theory.specs.Below.{any_below}
-use Rattle.theory.specs.Below.Laws.{any_elim, any_fails}
+use Rattle.theory.proofs.Below.Laws.{any_elim, any_fails}
 use Rattle.theory.specs.Leaf.{signed}
-use Rattle.theory.specs.Leaf.Signed.{plus, minus, parts_same, sub_parts}
+use Rattle.theory.proofs.Leaf.Signed.{plus, minus, parts_same, sub_parts}
 use Rattle.format.specs.Bytes.{le16, le32, section}
 use Rattle.format.specs.Format.{header_of, sections_of, is_input, biased}
 use Rattle.threshold.specs.Numbers.{leaf_in, sheet_weight, multiplier_of}

@@ -11,23 +11,23 @@ use native.Mathlib.Omega.{arith}
 use Rattle.std.proofs.Math.ListN.{take, drop, replicate}
 use Rattle.std.proofs.Math.Seq.{take-append_seam, drop-append_seam}
 use Rattle.theory.specs.Bool.{bit}
-use Rattle.theory.specs.Bool.Laws.{by_test, not_both}
+use Rattle.theory.proofs.Bool.Laws.{by_test, not_both}
 use Rattle.theory.specs.Below.{first_greatest}
-use Rattle.theory.specs.Below.Laws.{sum_const, sum_add, sum_same, le_greatest, place_lt, place-greatest, place-first}
+use Rattle.theory.proofs.Below.Laws.{sum_const, sum_add, sum_same, le_greatest, place_lt, place-greatest, place-first}
 use Rattle.theory.specs.Order.{lex_less}
-use Rattle.theory.specs.Order.Laws.{less_place, less_irreflexive}
+use Rattle.theory.proofs.Order.Laws.{less_place, less_irreflexive}
 use Rattle.theory.specs.Protocol.{Protocol, size, terminal, Shows, Start, after}
-use Rattle.theory.specs.Protocol.Laws.{output_is}
-use Rattle.theory.specs.Protocol.Lists.{length-after, size-after}
+use Rattle.theory.proofs.Protocol.Laws.{output_is}
+use Rattle.theory.proofs.Protocol.Lists.{length-after, size-after}
 use Rattle.theory.specs.Ladder.{Layers, Laddered, spreads, rank}
 use Rattle.theory.specs.Starts.{inputs_of, starts, start_at}
-use Rattle.theory.specs.Starts.Laws.{StartWith, each_start, every_start, descends, first-place}
-use Rattle.theory.specs.Starts.Number.{starts-number, starts-most}
+use Rattle.theory.proofs.Starts.Laws.{StartWith, each_start, every_start, descends, first-place}
+use Rattle.theory.proofs.Starts.Number.{starts-number, starts-most}
 use Rattle.theory.specs.Starts.Next.{first_start}
-use Rattle.theory.specs.Starts.Next.Laws.{excess_input, first_is}
+use Rattle.theory.proofs.Starts.Next.Laws.{excess_input, first_is}
 use Rattle.theory.specs.Machine.{run, admitted, run_numbers, rest_numbers, rest_of}
-use Rattle.theory.specs.Machine.Laws.{RunList, run_numbers_is}
-use Rattle.theory.specs.Machine.Rest.{exact_limit, rests_on_lem, runs_to_calls, runs_rest, rest-steps, rest_stands, rest-terminal}
+use Rattle.theory.proofs.Machine.Laws.{RunList, run_numbers_is}
+use Rattle.theory.proofs.Machine.Rest.{exact_limit, rests_on_lem, runs_to_calls, runs_rest, rest-steps, rest_stands, rest-terminal}
 use Rattle.theory.specs.Claims.{Reaches}
 use Rattle.format.specs.Format.{header_of, protocol_in, layers_in, weight_in}
 use Rattle.shape.specs.Shape.{refusal}

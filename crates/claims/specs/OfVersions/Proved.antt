@@ -7,7 +7,7 @@ use native.Mathlib.Omega.{arith}
 use Rattle.theory.specs.Below.{Clear, any_below}
 use Rattle.theory.specs.Protocol.{Protocol}
 use Rattle.theory.specs.Judge.{Passes}
-use Rattle.theory.specs.Judge.Laws.{passes_back, passes_both}
+use Rattle.theory.proofs.Judge.Laws.{passes_back, passes_both}
 use Rattle.theory.specs.Machine.{refused, reply, counts_after}
 use Rattle.format.specs.Bytes.{le16}
 use Rattle.format.specs.Format.{header_of, Sections, sections, sections_of, state_width, states_length, rules_length, layers_length, nodes_length, leaves_length}

@@ -4,14 +4,14 @@ use Rattle.std.proofs.Math.Path.{refl, ap}
 use Rattle.std.proofs.Common.{sym, ◌∙◌, subst, inl, inr, arith, ltb-true, ltb-false, lt-ltb, take_at, drop_at}
 use Rattle.std.proofs.Math.Bool.{true}
 use Rattle.std.proofs.Math.Logic.{⊎_elim}
-use Rattle.theory.specs.Bool.Laws.{by_test, not_both, is_true, is_false}
+use Rattle.theory.proofs.Bool.Laws.{by_test, not_both, is_true, is_false}
 use Rattle.theory.specs.Below.{Clear, first_below}
-use Rattle.theory.specs.Below.Laws.{first_passes, first-lowest}
-use Rattle.theory.specs.Below.Scan.{first_clear}
+use Rattle.theory.proofs.Below.Laws.{first_passes, first-lowest}
+use Rattle.theory.proofs.Below.Scan.{first_clear}
 use Rattle.theory.specs.Judge.{Test, Passes, FirstFits}
-use Rattle.theory.specs.Judge.Laws.{judge-passes, passes-judge, refused_by, fits_refuses, fits_split, fits-here, fits_none, fits_past, fits_other, fits_after}
-use Rattle.theory.specs.Judge.Laws.{passes-front, passes_back}
-use Rattle.theory.specs.Subtree.Laws.{number_12_13}
+use Rattle.theory.proofs.Judge.Laws.{judge-passes, passes-judge, refused_by, fits_refuses, fits_split, fits-here, fits_none, fits_past, fits_other, fits_after}
+use Rattle.theory.proofs.Judge.Laws.{passes-front, passes_back}
+use Rattle.theory.proofs.Subtree.Laws.{number_12_13}
 use Rattle.format.specs.Format.{header_of, Sections, sections_of, end_weight}
 use Rattle.format.specs.declared.Sizes.{Sizes}
 use Rattle.format.specs.declared.Header.{Header}

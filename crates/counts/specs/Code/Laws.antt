@@ -10,15 +10,15 @@ use Rattle.std.proofs.Math.Dec.{eqb}
 use Rattle.std.proofs.Math.ListN.{get_or-eq_default}
 use Rattle.std.proofs.lemmas.List.{set-get_or}
 use Rattle.std.proofs.Math.Seq.{set_out}
-use Rattle.theory.specs.Bool.Laws.{by_test, not_both, is_false, and_intro, and_elim}
+use Rattle.theory.proofs.Bool.Laws.{by_test, not_both, is_false, and_intro, and_elim}
 use Rattle.theory.specs.Below.{sum_below, first_below}
-use Rattle.theory.specs.Below.Laws.{below_suc, sum_same, first_le, first_is}
-use Rattle.theory.specs.Weigh.Laws.{weigh-sum, weigh_at}
+use Rattle.theory.proofs.Below.Laws.{below_suc, sum_same, first_le, first_is}
+use Rattle.theory.proofs.Weigh.Laws.{weigh-sum, weigh_at}
 use Rattle.theory.specs.Protocol.{Protocol, count, size, lose, gain, enabled, fire, unfit}
 use Rattle.theory.specs.Pairs.{pairs_between, pairs}
-use Rattle.theory.specs.Pairs.Laws.{pairs-own, pairs_other, enabled-pairs}
+use Rattle.theory.proofs.Pairs.Laws.{pairs-own, pairs_other, enabled-pairs}
 use Rattle.theory.specs.Ladder.{Layers, enabled_in, active, lowest}
-use Rattle.theory.specs.Ladder.Active.{enabled_in_elim, active_elim, active_intro}
+use Rattle.theory.proofs.Ladder.Active.{enabled_in_elim, active_elim, active_intro}
 use Rattle.theory.specs.Machine.{is_sized, is_within, admitted, admit, chosen}
 use Rattle.format.specs.Code.{Value}
 use Rattle.format.specs.Format.{fixed_of, is_input, rule_of, protocol_of}

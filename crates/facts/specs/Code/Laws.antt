@@ -8,7 +8,7 @@ use Rattle.std.proofs.Math.Dec.{eqb}
 use Rattle.std.proofs.Math.ListN.{get_or-eq_default}
 use borrow.Author.Tests.{lt-ltb, le-ltb, ltb-true, eq-eqb, ne_eqb, eqb-true, eqb-false}
 use Rattle.theory.specs.Bool.{member}
-use Rattle.theory.specs.Bool.Laws.{by_test}
+use Rattle.theory.proofs.Bool.Laws.{by_test}
 use Rattle.theory.specs.Protocol.{Protocol}
 use Rattle.theory.specs.Facts as theory
 use Rattle.theory.specs.Facts.{extend, with_absent, with_present, with_at_most_one, with_unused, fresh}

@@ -1,6 +1,6 @@
 -- `format::rule_before` meets its contract: at each return the numbers before it are the same.
 use Rattle.std.proofs.Common.{rules}
-use Rattle.theory.specs.Order.Laws.{less_by}
+use Rattle.theory.proofs.Order.Laws.{less_by}
 use Rattle.format.proofs.rule_before.Goals as goal
 
 pub returns-then-x-y : goal.returns-then-x-y

@@ -1,7 +1,7 @@
 -- What a state record has in each version. Assumes nothing.
 use Rattle.std.specs.Prelude.{◌≡◌, List, ℕ, ◌+◌, ◌*◌, ◌≤◌, ◌<◌, eqb}
 use Rattle.std.proofs.Common.{ap, mul-le-mul_right, arith, eq-eqb, ne_eqb}
-use Rattle.theory.specs.Bool.Laws.{by_test}
+use Rattle.theory.proofs.Bool.Laws.{by_test}
 use Rattle.format.specs.Bytes.{le16}
 use Rattle.format.specs.Code.{Value}
 use Rattle.format.specs.Format.{state_width, fixed_of}

@@ -1,6 +1,6 @@
 -- `ladder::lowering_fault` meets its contract: lowering holds at each rule below `r`.
 use Rattle.std.proofs.Common.{rules, ◌-◌}
-use Rattle.theory.specs.Below.Scan.{scan}
+use Rattle.theory.proofs.Below.Scan.{scan}
 use Rattle.ladder.proofs.lowering_fault.Goals as goal
 
 pub loop-r-init : goal.loop-r-init

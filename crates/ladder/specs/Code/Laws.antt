@@ -11,10 +11,10 @@ use borrow.Author.Tests.{leb-true, leb-false, eqb-true, eqb-false, lt-ltb, le-lt
 use Rattle.std.proofs.Math.Dec.{ltb}
 use mir.Val.{bool_byte}
 use Rattle.theory.specs.Bool.{member, imp, bit}
-use Rattle.theory.specs.Bool.Laws.{by_test, not_both, is_false, and_elim, and_fails, imp_intro}
+use Rattle.theory.proofs.Bool.Laws.{by_test, not_both, is_false, and_elim, and_fails, imp_intro}
 use Rattle.theory.specs.Below.{Clear, all_below, any_below, sum_below, least, greatest}
-use Rattle.theory.specs.Below.Scan.{clear_more}
-use Rattle.theory.specs.Below.Laws.{all_elim, all_intro, any_elim, any_intro}
+use Rattle.theory.proofs.Below.Scan.{clear_more}
+use Rattle.theory.proofs.Below.Laws.{all_elim, all_intro, any_elim, any_intro}
 use Rattle.theory.specs.Protocol.{Protocol}
 use Rattle.theory.specs.Ladder.{Layers, lowers_at, is_lower, pre_sequence, fits, handover_at, spread, spreads}
 use Rattle.bits.specs.Code.{single_of, union_of}

@@ -1,6 +1,6 @@
 -- No leaf below l is bad.
 use Rattle.std.proofs.Common.{◌-◌, rules}
-use Rattle.theory.specs.Below.Scan.{scan}
+use Rattle.theory.proofs.Below.Scan.{scan}
 use Rattle.leaf.proofs.leaf_fault.Goals as goal
 
 pub loop-l-init : goal.loop-l-init

@@ -10,9 +10,9 @@ use Rattle.std.proofs.Math.Dec.{eqb}
 use Rattle.std.specs.Int.{w8}
 use borrow.Author.Tests.{lt-ltb, le-ltb, eqb-true, eq-eqb, ne_eqb, not-true, not-false}
 use Rattle.theory.specs.Bool.{member}
-use Rattle.theory.specs.Bool.Laws.{by_test, is_false, not_both, and_elim}
+use Rattle.theory.proofs.Bool.Laws.{by_test, is_false, not_both, and_elim}
 use Rattle.theory.specs.Below.{all_below, sum_below}
-use Rattle.theory.specs.Below.Laws.{all_elim, all_intro, all_fails, first_is, first-lowest, first_passes}
+use Rattle.theory.proofs.Below.Laws.{all_elim, all_intro, all_fails, first_is, first-lowest, first_passes}
 use Rattle.theory.specs.Facts.{Facts}
 use Rattle.bits.specs.Code.{without_of, in_word}
 use Rattle.format.specs.Code.{Value}

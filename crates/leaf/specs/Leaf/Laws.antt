@@ -5,8 +5,8 @@ use Rattle.std.proofs.Math.Path.{ap}
 use Rattle.std.proofs.Math.Bool.{Bool, or_comm, or-false}
 use borrow.Author.Tests.{lt-ltb, le-ltb, ltb-true, ltb-false}
 use Rattle.theory.specs.Below.{any_below, first_below, Clear}
-use Rattle.theory.specs.Below.Laws.{any_fails, any_elim}
-use Rattle.theory.specs.Below.Scan.{clear_more, first_hit, found}
+use Rattle.theory.proofs.Below.Laws.{any_fails, any_elim}
+use Rattle.theory.proofs.Below.Scan.{clear_more, first_hit, found}
 use Rattle.format.specs.Code.{Value}
 use Rattle.format.specs.Format.{end_weight}
 use Rattle.format.specs.declared.Sizes.{Sizes}

@@ -8,16 +8,16 @@ use Rattle.std.proofs.Math.Logic.{by_cases}
 use Rattle.std.proofs.Math.Decide.{dec_lt}
 use borrow.Author.Tests.{ltb-true, lt-ltb, le-ltb, eq-eqb, ne_eqb, eqb-true, not-true, not-false}
 use Rattle.theory.specs.Bool.{member, imp}
-use Rattle.theory.specs.Bool.Laws.{by_test, not_both, is_false, and_elim}
-use Rattle.theory.specs.Below.Laws.{all_same, first_is, first_passes, first-lowest}
+use Rattle.theory.proofs.Bool.Laws.{by_test, not_both, is_false, and_elim}
+use Rattle.theory.proofs.Below.Laws.{all_same, first_is, first_passes, first-lowest}
 use Rattle.theory.specs.Protocol.{Protocol, WellFormed, count, size, enabled, fire, terminal, shows, output_of, unfit, start_test, fires, tried, after}
-use Rattle.theory.specs.Protocol.Laws.{terminal_off}
-use Rattle.theory.specs.Protocol.Lists.{tried-fires, tried_not, rule_fires}
+use Rattle.theory.proofs.Protocol.Laws.{terminal_off}
+use Rattle.theory.proofs.Protocol.Lists.{tried-fires, tried_not, rule_fires}
 use Rattle.theory.specs.Pairs.{pairs}
 use Rattle.theory.specs.Ladder.{Layers, OrderedPartition, lowest, enabled_in}
-use Rattle.theory.specs.Ladder.Active.{enabled_in_elim}
+use Rattle.theory.proofs.Ladder.Active.{enabled_in_elim}
 use Rattle.theory.specs.Machine.{Call, Reply, step, run, stepped, refused, admitted, admit, chosen, reply, counts_after, step_reply, run_reply}
-use Rattle.theory.specs.Machine.Laws.{adds_on, adds_off, reply_step, step_no_rule, step_not_enabled, step_fires, chosen-fires}
+use Rattle.theory.proofs.Machine.Laws.{adds_on, adds_off, reply_step, step_no_rule, step_not_enabled, step_fires, chosen-fires}
 use Rattle.bits.specs.Code.{among_of, subset_of, disjoint_of, lowest_of}
 use Rattle.bits.specs.Code.Laws.{all_wider}
 use Rattle.format.specs.Format.{sections_of, protocol_of, layers_of, protocol_in, layers_in}

@@ -8,14 +8,14 @@ use native.Mathlib.Omega.{arith}
 use borrow.Author.Tests.{leb-true, eq-eqb, ne_eqb}
 use Rattle.std.proofs.Math.Dec.{eqb}
 use Rattle.std.proofs.Math.ListN.{length}
-use Rattle.theory.specs.Bool.Laws.{and_elim}
+use Rattle.theory.proofs.Bool.Laws.{and_elim}
 use Rattle.theory.specs.Protocol.{Protocol, WellFormed, size, fire, terminal, after}
-use Rattle.theory.specs.Protocol.Laws.{Firing, length-fire, size-fire}
-use Rattle.theory.specs.Protocol.Lists.{tried-fires, rule_fires}
+use Rattle.theory.proofs.Protocol.Laws.{Firing, length-fire, size-fire}
+use Rattle.theory.proofs.Protocol.Lists.{tried-fires, rule_fires}
 use Rattle.theory.specs.Ladder.{Layers, OrderedPartition}
 use Rattle.theory.specs.Machine.{ran, run, is_sized, is_within, admitted, chosen, run_numbers, run_reply, counts_after}
-use Rattle.theory.specs.Machine.Laws.{adds_on, admitted_sized, reply_run}
-use Rattle.theory.specs.Machine.Rest.{at_rest, not_at_rest}
+use Rattle.theory.proofs.Machine.Laws.{adds_on, admitted_sized, reply_run}
+use Rattle.theory.proofs.Machine.Rest.{at_rest, not_at_rest}
 use Rattle.machine.specs.Code.{Replies}
 use Rattle.machine.specs.Code.Laws.{chosen-enabled, terminal-chosen}
 

@@ -10,9 +10,9 @@ use Rattle.std.proofs.Math.Decide.{dec_lt}
 use native.Mathlib.Omega.{arith}
 use borrow.Author.Tests.{lt-ltb, le-ltb, ltb-true, ltb-false, leb-true, eqb-true, eqb-false, not-true, not-false}
 use Rattle.theory.specs.Bool.{member, imp}
-use Rattle.theory.specs.Bool.Laws.{by_test, not_both, is_false, and_elim, imp_intro, imp_elim}
+use Rattle.theory.proofs.Bool.Laws.{by_test, not_both, is_false, and_elim, imp_intro, imp_elim}
 use Rattle.theory.specs.Below.{all_below}
-use Rattle.theory.specs.Below.Laws.{all_same, all_intro, all_elim}
+use Rattle.theory.proofs.Below.Laws.{all_same, all_intro, all_elim}
 use Rattle.theory.specs.Protocol.{Protocol}
 use Rattle.theory.specs.Facts.{Facts, with_absent, with_present, with_at_most_one, with_unused}
 use Rattle.theory.specs.Tree as tree

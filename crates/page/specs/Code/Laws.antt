@@ -11,10 +11,10 @@ use Rattle.std.proofs.Math.ListN.{length, take, drop, length-append, length-drop
 use Rattle.std.proofs.lemmas.List.Edits.{sets-eq}
 use Rattle.std.proofs.Math.Seq.{drop_at}
 use Rattle.theory.specs.Bool.{bit}
-use Rattle.theory.specs.Bool.Laws.{or_fails}
+use Rattle.theory.proofs.Bool.Laws.{or_fails}
 use Rattle.theory.specs.Judge.{judge, Passes}
-use Rattle.theory.specs.Judge.Laws.{only_hit, only_pass, judge_done, judge_map}
-use Rattle.theory.specs.Protocol.Lists.{length-after}
+use Rattle.theory.proofs.Judge.Laws.{only_hit, only_pass, judge_done, judge_map}
+use Rattle.theory.proofs.Protocol.Lists.{length-after}
 use Rattle.theory.specs.Machine.{run, Reply, stepped, ran, refused, reply, counts_after, adds}
 use Rattle.format.specs.Format.{header_of, protocol_in, layers_in}
 use Rattle.format.specs.declared.Header.{Header}

@@ -1,6 +1,6 @@
 -- `shape::first` meets its contract: the test holds of no record below `i`.
 use Rattle.std.proofs.Common.{◌-◌, rules}
-use Rattle.theory.specs.Below.Scan.{scan}
+use Rattle.theory.proofs.Below.Scan.{scan}
 use Rattle.shape.proofs.first.Goals as goal
 
 pub loop-i-init : goal.loop-i-init

@@ -1,6 +1,6 @@
 -- `shape::header_shape` meets its contract: each branch follows the judgement's.
 use Rattle.std.proofs.Common.{rules}
-use Rattle.theory.specs.Judge.Laws.{judged, only_hit, only_pass}
+use Rattle.theory.proofs.Judge.Laws.{judged, only_hit, only_pass}
 use Rattle.shape.specs.Shape.{header_shape}
 use Rattle.shape.specs.Shape.Laws.{tested_shape}
 use Rattle.shape.proofs.header_shape.Goals as goal

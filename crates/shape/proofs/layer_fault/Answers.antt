@@ -1,6 +1,6 @@
 -- `shape::layer_fault` meets its contract: no layer below `i` is at fault.
 use Rattle.std.proofs.Common.{rules, ◌-◌}
-use Rattle.theory.specs.Below.Scan.{scan}
+use Rattle.theory.proofs.Below.Scan.{scan}
 use Rattle.shape.proofs.layer_fault.Goals as goal
 
 pub loop-i-init : goal.loop-i-init

@@ -1,6 +1,6 @@
 -- `shape::section_tests` meets its contract: each branch follows the judgement's.
 use Rattle.std.proofs.Common.{rules}
-use Rattle.theory.specs.Judge.Laws.{judged}
+use Rattle.theory.proofs.Judge.Laws.{judged}
 use Rattle.shape.specs.Code.{tested_of}
 use Rattle.shape.proofs.section_tests.Goals as goal
 

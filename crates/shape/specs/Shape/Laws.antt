@@ -5,16 +5,16 @@ use Rattle.std.proofs.Math.Bool.{or-false}
 use Rattle.std.proofs.Math.Decide.{dec_lt}
 use Rattle.std.proofs.Math.Logic.{by_cases}
 use borrow.Author.Tests.{lt-ltb, le-ltb, eq-eqb, ne_eqb, eqb-true, eqb-false}
-use Rattle.theory.specs.Bool.Laws.{by_test}
+use Rattle.theory.proofs.Bool.Laws.{by_test}
 use Rattle.theory.specs.Below.{Clear, first_below, any_below}
-use Rattle.theory.specs.Below.Laws.{first_is, first_passes, first-lowest}
-use Rattle.theory.specs.Below.Scan.{clear_more, first_hit, first-end, first_any, found}
+use Rattle.theory.proofs.Below.Laws.{first_is, first_passes, first-lowest}
+use Rattle.theory.proofs.Below.Scan.{clear_more, first_hit, first-end, first_any, found}
 use Rattle.format.specs.Format.{sections, sections_of, is_input, rule_of, rule_before}
 use Rattle.format.specs.declared.Sizes.{Sizes}
 use Rattle.format.specs.declared.Header.{Header}
 use Rattle.format.specs.declared.Rule.{Rule}
 use Rattle.theory.specs.Judge.{Test, judge, Passes}
-use Rattle.theory.specs.Judge.Laws.{judge_map, judge-passes}
+use Rattle.theory.proofs.Judge.Laws.{judge_map, judge-passes}
 use Rattle.shape.specs.Shape.{refusal, nth, bad_record, not_after, in_layer, too_large, bad_state, bad_fields, bad_rule, out_of_order, bad_layer}
 use Rattle.shape.specs.Shape.{section_tests, by_shape}
 use Rattle.shape.specs.Code.{failed, tested_of, as_shape, refusal_of}

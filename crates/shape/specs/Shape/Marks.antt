@@ -11,10 +11,10 @@ use borrow.Author.Tests.{lt-ltb, leb-true, eq-eqb, eqb-true, not-true, not-false
 use Rattle.std.proofs.Math.Dec.{eqb}
 use Rattle.std.proofs.Math.Seq.{get_or-set_same}
 use Rattle.theory.specs.Bool.{member, bit}
-use Rattle.theory.specs.Bool.Laws.{by_test, not_both, is_false, and_elim, and_intro, or_left, or_right}
+use Rattle.theory.proofs.Bool.Laws.{by_test, not_both, is_false, and_elim, and_intro, or_left, or_right}
 use Rattle.theory.specs.Below.{any_below, first_below, Clear}
-use Rattle.theory.specs.Below.Laws.{first_le, first-lowest, any_elim, any_intro}
-use Rattle.theory.specs.Below.Scan.{first-end, found, at_end}
+use Rattle.theory.proofs.Below.Laws.{first_le, first-lowest, any_elim, any_intro}
+use Rattle.theory.proofs.Below.Scan.{first-end, found, at_end}
 use Rattle.bits.specs.Code.{with_if}
 use Rattle.bits.specs.Code.Laws.{member_none, single-below}
 use Rattle.format.specs.Code.{Value}

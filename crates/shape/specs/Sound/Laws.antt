@@ -6,9 +6,9 @@ use Rattle.std.proofs.Math.Logic.{⊎_map}
 use Prim.Native.Nat.{ℕ, zero, suc, ◌+◌, ◌≤◌, ◌<◌}
 use borrow.Author.Tests.{ltb-true, ltb-false, leb-false, eqb-true, eqb-false, eq-eqb, lt-ltb, le-ltb, lt-leb, not-true, not-false}
 use Rattle.std.proofs.Math.Dec.{eqb}
-use Rattle.theory.specs.Bool.Laws.{not_both, is_true, is_false, and_elim, and_intro, and_fails, or_fails, or_none, or_left, or_right, or_elim}
+use Rattle.theory.proofs.Bool.Laws.{not_both, is_true, is_false, and_elim, and_intro, and_fails, or_fails, or_none, or_left, or_right, or_elim}
 use Rattle.theory.specs.Below.{any_below, Clear}
-use Rattle.theory.specs.Below.Laws.{any_elim, any_intro, any_fails}
+use Rattle.theory.proofs.Below.Laws.{any_elim, any_intro, any_fails}
 use Rattle.theory.specs.Protocol.{WellFormed}
 use Rattle.theory.specs.Ladder.{OrderedPartition}
 use Rattle.format.specs.Bytes.{section}
@@ -17,7 +17,7 @@ use Rattle.format.specs.Format.{protocol_of, layers_of}
 use Rattle.format.specs.declared.Sizes.{Sizes}
 use Rattle.format.specs.declared.Header.{Header}
 use Rattle.theory.specs.Judge.{Passes}
-use Rattle.theory.specs.Judge.Laws.{judge-passes, passes-judge, passes_both}
+use Rattle.theory.proofs.Judge.Laws.{judge-passes, passes-judge, passes_both}
 use Rattle.shape.specs.Shape.{refusal, wrong_version, count_faults, offset_faults, nth, other_bits, too_many_fixed, bad_record}
 use Rattle.shape.specs.Shape.{same_before, same_rule, in_layer, too_large}
 use Rattle.shape.specs.Shape.{bad_state, bad_rule, repeats, out_of_order, bad_layer, section_tests, header_tests, shape_tests, header_shape, shape_of}

@@ -8,14 +8,14 @@ use native.Mathlib.Omega.{arith}
 use Rattle.std.proofs.Math.Dec.{leb}
 use borrow.Author.Tests.{lt-ltb, le-ltb, leb-true, leb-false, le-leb, lt-leb, eq-eqb, ne_eqb}
 use Rattle.theory.specs.Bool.{member, bit}
-use Rattle.theory.specs.Bool.Laws.{by_test}
+use Rattle.theory.proofs.Bool.Laws.{by_test}
 use Rattle.theory.specs.Below.{all_below, sum_below}
-use Rattle.theory.specs.Below.Laws.{sum_add}
+use Rattle.theory.proofs.Below.Laws.{sum_add}
 use Rattle.theory.specs.Protocol.{Protocol, only_fixed}
 use Rattle.theory.specs.Facts.{Facts}
 use Rattle.theory.specs.Leaf.{extra, spare, non_increasing, start_fits, times, end_fits, surplus, shortfall, leaf_closes}
 use Rattle.theory.specs.Remainder.{congruent, exactly_one, known, conserved, start_vanishes, end_vanishes, excess, deficit, remainder_closes}
-use Rattle.theory.specs.Remainder.Congruence.{congruent_apart}
+use Rattle.theory.proofs.Remainder.Congruence.{congruent_apart}
 use Rattle.format.specs.Code.{Value}
 use Rattle.share.specs.Code.{closes_by, kept_by, relates_by, KnownAt, fixed_in, joined_of, times_of, known_of, start_share, end_share}
 use Rattle.share.specs.Code.{start_remainder, end_remainder, sum_of, share_by, ShareIs}

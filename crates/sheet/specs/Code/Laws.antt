@@ -3,11 +3,11 @@ use Rattle.std.specs.Prelude.{◌≡◌, refl, Bool, true, false, cond, ℕ, ◌
 use Rattle.std.proofs.Math.Path.{sym, ap, fun_ext}
 use Rattle.std.proofs.Common.{◌∙◌, arith}
 use mathlib.Core.List.{List, []}
-use Rattle.theory.specs.Judge.Laws.{only_hit, only_pass, judge_done}
+use Rattle.theory.proofs.Judge.Laws.{only_hit, only_pass, judge_done}
 use Rattle.theory.specs.Protocol.{Protocol}
 use Rattle.theory.specs.Tree.{Walked, next, refused, tree_answer}
-use Rattle.theory.specs.Subtree.Laws.{tree_fails, place-within}
-use Rattle.theory.specs.Sheet.Laws.{first_refused, then_next, then_refused}
+use Rattle.theory.proofs.Subtree.Laws.{tree_fails, place-within}
+use Rattle.theory.proofs.Sheet.Laws.{first_refused, then_next, then_refused}
 use Rattle.theory.specs.Sheet.{Sheet, at_least, at_most, counterexample, first_walk, second_walk, sheet_answer}
 use Rattle.format.specs.Format.{header_of, sections_of, protocol_of, tree_of}
 use Rattle.format.specs.declared.Header.{Header}

@@ -1,6 +1,6 @@
 -- No state below s has a bad number.
 use Rattle.std.proofs.Common.{rules, ◌-◌}
-use Rattle.theory.specs.Below.Scan.{scan}
+use Rattle.theory.proofs.Below.Scan.{scan}
 use Rattle.sheetshape.proofs.number_fault.Goals as goal
 
 pub loop-s-init : goal.loop-s-init

@@ -1,6 +1,6 @@
 -- `starts::givers_end` meets its contract: no state from e on, and below `last`, has more than its fixed agents.
 use Rattle.std.proofs.Common.{◌≡◌, []}
-use Rattle.theory.specs.Below.Laws.{end_below}
+use Rattle.theory.specs.Below.Ends.{end_below}
 use Rattle.theory.specs.Starts.Next.{has_spare}
 use Rattle.format.specs.Format.{protocol_of}
 use Rattle.starts.proofs.givers_end.Given as goal

@@ -1,6 +1,6 @@
 -- `starts::inputs_end` meets its contract: no state from e on is an input.
 use Rattle.std.proofs.Common.{◌≡◌}
-use Rattle.theory.specs.Below.Laws.{end_below}
+use Rattle.theory.specs.Below.Ends.{end_below}
 use Rattle.format.specs.Format.{is_input}
 use Rattle.starts.proofs.inputs_end.Given as goal
 

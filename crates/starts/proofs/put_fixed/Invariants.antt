@@ -1,7 +1,7 @@
 -- `starts::put_fixed` meets its contract: the states below s hold their fixed agents.
 use Rattle.std.proofs.Common.{◌≡◌, ◌≤◌, ◌-◌, length}
 use Rattle.format.specs.Format.{fixed_of}
-use Rattle.theory.specs.Below.Laws.{Filled}
+use Rattle.theory.proofs.Below.Laws.{Filled}
 use Rattle.starts.proofs.put_fixed.Given as goal
 
 abbrev pub invariant-loop-s : goal.invariant-loop-s

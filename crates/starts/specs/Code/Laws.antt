@@ -9,14 +9,15 @@ use native.Mathlib.Omega.{arith}
 use borrow.Author.Tests.{ltb-true, lt-ltb}
 use Rattle.std.proofs.Math.ListN.{set}
 use Rattle.theory.specs.Bool.{bit}
-use Rattle.theory.specs.Below.Laws.{first_from, end_below, first_is, from_min, end_le, end-passes, table, length-table, get_d_table}
-use Rattle.theory.specs.Below.Laws.{Filled, filled_none, filled_more, filled_all}
-use Rattle.theory.specs.Below.Scan.{sum_none, sum_more}
+use Rattle.theory.specs.Below.Ends.{first_from, end_below, table}
+use Rattle.theory.proofs.Below.Laws.{first_is, from_min, end_le, end-passes, length-table, get_or-table}
+use Rattle.theory.proofs.Below.Laws.{Filled, filled_none, filled_more, filled_all}
+use Rattle.theory.proofs.Below.Scan.{sum_none, sum_more}
 use Rattle.theory.specs.Protocol.{Protocol, HasInput, count, size}
-use Rattle.theory.specs.Weigh.Laws.{weigh_at}
+use Rattle.theory.proofs.Weigh.Laws.{weigh_at}
 use Rattle.theory.specs.Starts.{inputs_of}
 use Rattle.theory.specs.Starts.Next.{last_input, has_spare, givers_end, taker, first_start, next_start}
-use Rattle.theory.specs.Starts.Next.Laws.{some_end, last_lt, last_input_lem, first_lt}
+use Rattle.theory.proofs.Starts.Next.Laws.{some_end, last_lt, last_input_lem, first_lt}
 use Rattle.format.specs.Format.{is_input, fixed_of, protocol_of}
 use Rattle.format.specs.declared.Sizes.{Sizes}
 use Rattle.starts.specs.Code.{inputs_below, AtLeastFixed, Passable, passed_on}
@@ -103,7 +104,7 @@ spare_is z states c s m n hm hn = rw (hm, hn)
 pub all_filled : (f : ℕ → ℕ) (c : List ℕ) (i n : ℕ) → Filled f i c → length c ≡ n → n ≤ i → c ≡ table n f
 all_filled f c i n h long l =
     let to = length-table n f in
-    filled_all f c (table n f) i h (long ∙ sym to) (λ k b. sym (get_d_table n f k (omega arith))) (omega arith)
+    filled_all f c (table n f) i h (long ∙ sym to) (λ k b. sym (get_or-table n f k (omega arith))) (omega arith)
 
 pub ruleset filling = (filled_none, filled_more, all_filled)
 

@@ -1,8 +1,7 @@
 -- The first start, and the next one after a start, as the code finds them.
 use Rattle.std.specs.Prelude.{Bool, List, ℕ, ◌+◌, ◌-◌, set, ltb}
-use Rattle.theory.specs.Below.Laws.{first_from, end_below, table}
+use Rattle.theory.specs.Below.Ends.{first_from, end_below, table}
 use Rattle.theory.specs.Protocol.{Protocol, count}
-pub mod Laws
 
 module _ (P : Protocol) where
   -- The last input.

@@ -6,7 +6,7 @@ use Rattle.std.proofs.Math.Bool.{false, and_assoc, and-false}
 use Rattle.std.proofs.Math.Dec.{leb}
 use borrow.Author.Tests.{not-true, not-false}
 use Rattle.theory.specs.Below.{all_below, sum_below}
-use Rattle.theory.specs.Below.Laws.{sum_add}
+use Rattle.theory.proofs.Below.Laws.{sum_add}
 use Rattle.theory.specs.Protocol.{Protocol, only_fixed}
 use Rattle.theory.specs.Facts.{Facts}
 use Rattle.theory.specs.Leaf.{extra, spare, non_increasing, start_fits, times, end_fits, surplus, shortfall}

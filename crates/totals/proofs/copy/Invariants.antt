@@ -1,6 +1,6 @@
 -- `totals::copy` meets its contract: the first i numbers are copied.
 use Rattle.std.proofs.Common.{◌≡◌, ◌≤◌, ◌-◌, length, get_or}
-use Rattle.theory.specs.Below.Laws.{Filled}
+use Rattle.theory.proofs.Below.Laws.{Filled}
 use Rattle.totals.proofs.copy.Given as goal
 
 abbrev pub invariant-loop-i : goal.invariant-loop-i

@@ -10,14 +10,14 @@ use native.Mathlib.Omega.{arith}
 use borrow.Author.Tests.{eq-eqb, le-leb, not-true, not-false}
 use Rattle.std.proofs.Math.ListN.{length}
 use Rattle.theory.specs.Bool.{bit}
-use Rattle.theory.specs.Bool.Laws.{by_test, not_both, and_intro}
+use Rattle.theory.proofs.Bool.Laws.{by_test, not_both, and_intro}
 use Rattle.theory.specs.Below.{greatest}
-use Rattle.theory.specs.Below.Laws.{sum_const, sum_mono, greatest_at, Filled, filled_none, filled_more, filled_all}
+use Rattle.theory.proofs.Below.Laws.{sum_const, sum_mono, greatest_at, Filled, filled_none, filled_more, filled_all}
 use Rattle.theory.specs.Protocol.{Protocol, size, terminal, after}
 use Rattle.theory.specs.Ladder.{Layers, spread, spreads}
 use Rattle.theory.specs.Machine.{Reply, ran, run, meetings_of, is_sized, is_within, admitted, run_numbers, run_reply, counts_after, rest_of}
-use Rattle.theory.specs.Machine.Laws.{admitted_sized, adds_on, reply_run, RunList, admitted-after, run_numbers_is}
-use Rattle.theory.specs.Machine.Rest.{RunsTo, runs_to_none, runs_to_more, runs_to_bound, rest-steps, rest_stands}
+use Rattle.theory.proofs.Machine.Laws.{admitted_sized, adds_on, reply_run, RunList, admitted-after, run_numbers_is}
+use Rattle.theory.proofs.Machine.Rest.{RunsTo, runs_to_none, runs_to_more, runs_to_bound, rest-steps, rest_stands}
 use Rattle.format.specs.Format.{protocol_in, layers_in, weight_in}
 use Rattle.format.specs.declared.Header.{Header}
 use Rattle.machine.specs.Code.{Replies, reply_of_run}

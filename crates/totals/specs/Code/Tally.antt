@@ -10,21 +10,21 @@ use native.Mathlib.Omega.{arith}
 use borrow.Author.Tests.{ltb-true, ltb-false, eq-eqb, ne_eqb, eqb-false}
 use Rattle.std.proofs.Math.Dec.{eqb}
 use Rattle.theory.specs.Bool.{bit}
-use Rattle.theory.specs.Bool.Laws.{by_test, or_resolve, or_fails}
+use Rattle.theory.proofs.Bool.Laws.{by_test, or_resolve, or_fails}
 use Rattle.theory.specs.Below.{sum_below, greatest, first_greatest}
-use Rattle.theory.specs.Below.Laws.{sum_const, sum_mono, le_greatest, place-new, place_same}
-use Rattle.theory.specs.Below.Scan.{sum_more}
+use Rattle.theory.proofs.Below.Laws.{sum_const, sum_mono, le_greatest, place-new, place_same}
+use Rattle.theory.proofs.Below.Scan.{sum_more}
 use Rattle.theory.specs.Order.{lex_less}
 use Rattle.theory.specs.Protocol.{Protocol, HasInput, Output, agreed, mixed, output_of}
-use Rattle.theory.specs.Protocol.Laws.{rule_fixed}
+use Rattle.theory.proofs.Protocol.Laws.{rule_fixed}
 use Rattle.theory.specs.Ladder.{Layers}
 use Rattle.theory.specs.Starts.{fixed_total, starts, start_at}
-use Rattle.theory.specs.Starts.Laws.{StartWith, each_start, first-place, next_place, last-place}
-use Rattle.theory.specs.Starts.Number.{starts-most}
+use Rattle.theory.proofs.Starts.Laws.{StartWith, each_start, first-place, next_place, last-place}
+use Rattle.theory.proofs.Starts.Number.{starts-most}
 use Rattle.theory.specs.Starts.Next.{last_input, givers_end, taker, first_start, next_start}
-use Rattle.theory.specs.Starts.Next.Laws.{first_is, next_is, next_none}
+use Rattle.theory.proofs.Starts.Next.Laws.{first_is, next_is, next_none}
 use Rattle.theory.specs.Machine.{admitted, rest_of}
-use Rattle.theory.specs.Machine.Laws.{admit_on, admitted-after}
+use Rattle.theory.proofs.Machine.Laws.{admit_on, admitted-after}
 use Rattle.format.specs.Format.{sections_of, protocol_of, protocol_in, layers_in, weight_in}
 use Rattle.format.specs.declared.Header.{Header}
 use Rattle.machine.specs.Calls.{verdict_as, verdict_answer}

@@ -5,8 +5,8 @@ use Rattle.std.proofs.Common.{◌∙◌, arith, ltb-false, le-ltb, length-take}
 use mathlib.Core.List.{List, [], ◌++◌}
 use Rattle.std.proofs.Math.Nat.{sub-zero, suc-sub-suc}
 use Rattle.std.proofs.lemmas.List.{length-replicate}
-use Rattle.theory.specs.Bool.Laws.{or_none, or_fails}
-use Rattle.theory.specs.Judge.Laws.{only_hit, only_pass, judge_done}
+use Rattle.theory.proofs.Bool.Laws.{or_none, or_fails}
+use Rattle.theory.proofs.Judge.Laws.{only_hit, only_pass, judge_done}
 use Rattle.theory.specs.Protocol.{Protocol}
 use Rattle.theory.specs.Ladder.{Layers}
 use Rattle.theory.specs.Starts.{inputs_of}

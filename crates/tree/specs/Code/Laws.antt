@@ -6,13 +6,13 @@ use Prim.Native.Nat.{ℕ, zero, suc, ◌+◌, ◌-◌, ◌*◌, ◌/◌, ◌%◌
 use Rattle.std.proofs.Math.Numerals.{add-one}
 use native.Mathlib.Omega.{arith}
 use Rattle.theory.specs.Bool.{member}
-use Rattle.theory.specs.Bool.Laws.{by_test}
-use Rattle.theory.specs.Below.Scan.{at_end}
+use Rattle.theory.proofs.Bool.Laws.{by_test}
+use Rattle.theory.proofs.Below.Scan.{at_end}
 use Rattle.theory.specs.Protocol.{Protocol}
 use Rattle.theory.specs.Facts.{Facts, fresh}
 use Rattle.theory.specs.Tree.{Tree, Assumption, Walked, next, refused, forest, refusal_number, ground, children, assuming, disagreement}
 use Rattle.theory.specs.Tree.{Node, node, tree_at, tree_answer}
-use Rattle.theory.specs.Subtree.Laws.{by_fields}
+use Rattle.theory.proofs.Subtree.Laws.{by_fields}
 use Rattle.theory.specs.Tree.{set_size, widest_below, widest}
 use Rattle.bits.specs.Code.{full_of, among_of, without_of}
 use Rattle.format.specs.Format.{is_input, is_output, fixed_of, node_kind, node_set, protocol_of, tree_of, weights_of}

@@ -8,11 +8,11 @@ use Rattle.std.proofs.lemmas.Bool.{eqb-false}
 use Rattle.std.proofs.Math.Arith.{mod-mul}
 use Rattle.std.proofs.Math.ListN.{length, take, drop, length-take, length-drop, drop_of_length-le}
 use Rattle.std.proofs.Math.Seq.{take_all, take-length, take-append_seam, drop-append-add}
-use Rattle.theory.specs.Bool.Laws.{by_test}
+use Rattle.theory.proofs.Bool.Laws.{by_test}
 use Rattle.theory.specs.Below.{first_below}
-use Rattle.theory.specs.Below.Scan.{first_clear}
+use Rattle.theory.proofs.Below.Scan.{first_clear}
 use Rattle.theory.specs.Judge.{Test, judge, Passes}
-use Rattle.theory.specs.Judge.Laws.{judge_hit, judge_pass, judge_done, only_hit, only_pass, judge_map, judge-append}
+use Rattle.theory.proofs.Judge.Laws.{judge_hit, judge_pass, judge_done, only_hit, only_pass, judge_map, judge-append}
 use Rattle.format.specs.Format.{state_width, Sections, sections}
 use Rattle.format.specs.declared.Sizes.{Sizes}
 use Rattle.format.specs.declared.Header.{Header}

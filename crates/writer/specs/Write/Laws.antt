@@ -6,11 +6,11 @@ use Rattle.std.proofs.Math.Nat.{div-add-mod}
 use Rattle.std.proofs.Math.Decide.{dec_lt}
 use Rattle.std.proofs.lemmas.Bool.{eqb-false, not-true, not-false}
 use Rattle.std.proofs.Math.ListN.{get_or-eq_default}
-use Rattle.theory.specs.Bool.Laws.{is_false, and_elim}
+use Rattle.theory.proofs.Bool.Laws.{is_false, and_elim}
 use Rattle.theory.specs.Below.{Clear, all_below}
-use Rattle.theory.specs.Below.Laws.{all_elim}
+use Rattle.theory.proofs.Below.Laws.{all_elim}
 use Rattle.theory.specs.Judge.{Passes}
-use Rattle.theory.specs.Judge.Laws.{passes_back}
+use Rattle.theory.proofs.Judge.Laws.{passes_back}
 use Rattle.format.specs.Code.{Value}
 use Rattle.format.specs.Code.Laws.{width_some}
 use Rattle.format.specs.Format.{state_width, states_length, Sections}

@@ -7,7 +7,7 @@ use Rattle.std.proofs.Math.Arith.{digits_div, digits_mod}
 use Rattle.std.proofs.Math.Seq.{drop-append-add}
 use Rattle.theory.specs.Below.{Clear}
 use Rattle.theory.specs.Judge.{Passes}
-use Rattle.theory.specs.Judge.Laws.{passes_both}
+use Rattle.theory.proofs.Judge.Laws.{passes_both}
 use Rattle.format.specs.Bytes.{le16, section}
 use Rattle.format.specs.Code.Laws.{width_some}
 use Rattle.format.specs.Format.{header_of, Sections, sections, sections_of, state_width, states_length, rules_length, layers_length, nodes_length, leaves_length}

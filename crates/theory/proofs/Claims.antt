@@ -1,0 +1,3 @@
+pub mod LayerWords
+pub mod Layered
+pub mod Proved

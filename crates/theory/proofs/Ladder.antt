@@ -1,0 +1,4 @@
+pub mod Active
+pub mod Handover
+pub mod Lists
+pub mod Rank

@@ -1,0 +1,4 @@
+pub mod Congruence
+pub mod Laws
+pub mod Signed
+pub mod Tests

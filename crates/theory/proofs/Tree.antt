@@ -1,0 +1,3 @@
+pub mod Consensus
+pub mod Laws
+pub mod Traps

@@ -1,0 +1,17 @@
+-- The ends of what passes below a bound, and tables; the code of starts speaks of them.
+use Rattle.std.specs.Prelude.{Bool, true, false, List, [], ◌∷◌, ℕ, zero, suc, ◌+◌, ◌-◌}
+use Rattle.theory.specs.Below.{first_below}
+
+-- The lowest number from m on, and below n, that passes, or n; where m is at most n.
+unfoldable pub first_from : ℕ → ℕ → (ℕ → Bool) → ℕ
+first_from m n f = m + first_below (n - m) (λ k. f (m + k))
+
+-- One past the greatest number below n that passes, or 0.
+unfoldable pub end_below : ℕ → (ℕ → Bool) → ℕ
+end_below zero f = zero
+end_below (suc n) f = elim (f n) [ true ↦ suc n | false ↦ end_below n f ]
+
+-- The list f 0, .., f (n - 1).
+unfoldable pub table : ℕ → (ℕ → ℕ) → List ℕ
+table zero f = []
+table (suc n) f = f 0 ∷ table n (λ k. f (suc k))

@@ -12,7 +12,6 @@ use Rattle.claims.specs.OfVersions.{OfVersions}
 use Rattle.claims.specs.OfPage.{OfPage}
 use Rattle.claims.specs.OfTotals.{OfTotals}
 use Rattle.claims.specs.OfSheet.{OfSheet}
-pub mod Proved
 
 -- The claims, one field for each subject.
 pub record Claims : Type 0 where

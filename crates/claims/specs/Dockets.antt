@@ -1,7 +1,6 @@
 -- The dockets of samples that are not in format's own samples.
 use Rattle.std.specs.Prelude.{List, [], ◌∷◌, ◌++◌, ℕ, ◌/◌, ◌%◌, take, drop, set}
 use Rattle.format.specs.Samples.{broadcast, majority}
-pub mod OneLayer
 
 -- Broadcast with its last node cut: N is 4, the offset of the leaves and the total are 87.
 abbrev pub cut : List ℕ

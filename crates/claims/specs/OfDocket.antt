@@ -29,15 +29,6 @@ use Rattle.machine.specs.declared.Pairs.TheVariants as paired
 use Rattle.machine.specs.declared.YesNo.TheVariants as answer
 use Rattle.machine.specs.declared.Verdict.TheVariants as shown
 use Rattle.codes.specs.Codes.{code, call_code, check_code, start_code, pairs_code, yes_no_code, verdict_code, reply_code}
-pub mod Numbers
-pub mod Says
-pub mod Codes
-pub mod Weights
-pub mod Exact
-pub mod Handover
-pub mod Lists
-pub mod Refusals
-pub mod Proved
 
 -- ---- Demand 1: what every call says, for every file, counts and number. The contracts of the code say that each call answers
 -- by the definition named here: start_of, pairs_of, terminal_of, verdict_of, reply_of, counts_of, check_of.

@@ -13,7 +13,6 @@ use Rattle.shape.specs.Sound.{InOrder, SoundShape}
 use Rattle.shape.specs.declared.Shape.TheVariants.{Refused}
 use Rattle.checker.specs.Check.{check_of}
 use Rattle.checker.specs.declared.Checked.TheVariants as checked
-pub mod Proved
 
 -- Rule r of the bytes b with header h: its four states and its layer.
 abbrev pub rule_in : List ℕ → Header → ℕ → Rule

@@ -20,7 +20,6 @@ use Rattle.page.specs.Page.{part_at, result_of, page_tests, page_of, counts_afte
 use Rattle.page.specs.declared.Paged.TheVariants.{Done, Refused}
 use Rattle.codes.specs.Codes.{page_code}
 use Rattle.claims.specs.OfDocket.{IsAccepted, last_on, reported_on}
-pub mod Proved
 
 -- How many groups the counts c have where the header is h, and group g of them, from 0 on.
 abbrev pub groups_in : Header → List ℕ → ℕ

@@ -10,7 +10,6 @@ use Rattle.shape.specs.Sound.{SoundShape}
 use Rattle.machine.specs.Calls.{pairs_of, terminal_of, reply_of, counts_of}
 use Rattle.machine.specs.declared.Pairs.TheVariants.{Number}
 use Rattle.machine.specs.declared.YesNo.TheVariants.{Is}
-pub mod Proved
 
 module _ (b : List ℕ) (h : Header) where
   -- The protocol of the docket b with header h.

@@ -23,8 +23,6 @@ use Rattle.sheet.specs.Sheet.{sheet_in, check_sheet_of}
 use Rattle.sheet.specs.declared.SheetChecked.TheVariants.{Accepted, Refused}
 use Rattle.codes.specs.Codes.{code, sheet_code}
 use Rattle.claims.specs.OfDocket.{IsAccepted, number16, last_on}
-pub mod Shape
-pub mod Proved
 
 -- Every member is a byte.
 abbrev pub Bytes : List ℕ → Type 0

@@ -17,7 +17,6 @@ use Rattle.totals.specs.Totals.{steps_to_rest, rests_on, Allowed, sheet_of}
 use Rattle.totals.specs.declared.Totals.{Totals}
 use Rattle.totals.specs.declared.Tallied.TheVariants.{Counted, Refused}
 use Rattle.claims.specs.OfDocket.{IsAccepted, last_on, reported_on}
-pub mod Proved
 
 -- ---- The starts
 

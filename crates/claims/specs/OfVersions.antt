@@ -12,7 +12,6 @@ use Rattle.checker.specs.Check.{check_of}
 use Rattle.machine.specs.Calls.{start_of, pairs_of, terminal_of, verdict_of, reply_of, counts_of}
 use Rattle.writer.specs.Write.{docket_of}
 use Rattle.claims.specs.OfOrder.{FirstNotAfter}
-pub mod Proved
 
 -- The bytes of states, and behind each two zeros.
 unfoldable pub widened : List ℕ → List ℕ

@@ -17,7 +17,6 @@ use Rattle.writer.specs.Write.{length_test, record_tests, write_tests, write_of,
 use Rattle.writer.specs.declared.Written.TheVariants.{Total, Refused}
 use Rattle.codes.specs.Codes.{write_code}
 use Rattle.claims.specs.OfDocket.{LeafWeights}
-pub mod Proved
 
 -- The bytes b, with header h, pass tests 1 to 8 and 11.
 pub record Readable (b : List ℕ) (h : Header) : Type 0 where

@@ -10,7 +10,6 @@ use Rattle.shape.specs.declared.Tested.TheVariants.{Passed, Failed}
 use Rattle.page.specs.Page.{result_of, page_tests, each_part}
 use Rattle.page.specs.declared.Paged.{Paged}
 use Rattle.page.specs.declared.Paged.TheVariants.{Done, Refused}
-pub mod Laws
 
 -- What tests 32 and 33 find.
 unfoldable pub page_tested : ℕ → ℕ → ℕ → Tested

@@ -9,7 +9,6 @@ use Rattle.shape.specs.Shape.{refusal, shape_of, by_shape}
 use Rattle.machine.specs.Calls.{reply_of, counts_of}
 use Rattle.page.specs.declared.Paged.{Paged}
 use Rattle.page.specs.declared.Paged.TheVariants.{Done, Refused}
-pub mod Laws
 
 -- ---- Groups
 

@@ -11,8 +11,6 @@ use Rattle.format.specs.declared.Rule.{Rule}
 use Rattle.shape.specs.declared.Refusal.{Refusal}
 use Rattle.shape.specs.declared.Shape.{Shape}
 use Rattle.shape.specs.declared.Shape.TheVariants.{Sound, Refused}
-pub mod Laws
-pub mod Marks
 
 -- A refusal's number and place.
 abbrev pub refusal : ℕ → ℕ → Refusal

@@ -8,7 +8,6 @@ use Rattle.format.specs.Format.{header_of, states_length, rules_length, layers_l
 use Rattle.format.specs.Format.{flags, fixed_of, rule_p, rule_q, rule_p', rule_q', rule_of, rule_key, layer_weight, protocol_of, layers_of}
 use Rattle.format.specs.declared.Sizes.{Sizes}
 use Rattle.format.specs.declared.Header.{Header}
-pub mod Laws
 
 -- v is 1 or 2 (test 2).
 abbrev pub IsVersion : ℕ → Type 0

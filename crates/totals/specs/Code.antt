@@ -15,8 +15,6 @@ use Rattle.machine.specs.declared.Verdict.{Verdict}
 use Rattle.machine.specs.declared.Verdict.TheVariants as shown
 use Rattle.totals.specs.Totals.{steps_to_rest, rests_on, resting_on, steps_at}
 use Rattle.totals.specs.declared.Totals.{Totals}
-pub mod Laws
-pub mod Tally
 
 -- What an accepted docket gives: tests 1 to 8 pass, and its ladder does.
 pub record Runs (b : List ℕ) (h : Header) : Type 0 where

@@ -15,7 +15,6 @@ use Rattle.checker.specs.Check.{check_of, on_accepted}
 use Rattle.totals.specs.declared.Totals.{Totals}
 use Rattle.totals.specs.declared.Sheet.{Sheet}
 use Rattle.totals.specs.declared.Tallied.TheVariants.{Counted, Refused}
-pub mod Laws
 
 -- Whether this output is v.
 abbrev pub is_agreed : Bool → Output → Bool

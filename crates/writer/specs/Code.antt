@@ -9,7 +9,6 @@ use Rattle.shape.specs.declared.Tested.TheVariants.{Passed, Failed}
 use Rattle.writer.specs.Write.{record_tests, part_tests}
 use Rattle.writer.specs.declared.Written.{Written}
 use Rattle.writer.specs.declared.Written.TheVariants.{Total, Refused}
-pub mod Laws
 
 -- A count in 16 bits: the greatest stands for all that are too great, which every limit refuses.
 abbrev pub cut : ℕ → ℕ

@@ -12,8 +12,6 @@ use Rattle.leaf.specs.Leaf.{leaf_test}
 use Rattle.writer.specs.declared.Lengths.{Lengths}
 use Rattle.writer.specs.declared.Written.{Written}
 use Rattle.writer.specs.declared.Written.TheVariants.{Total, Refused}
-pub mod Laws
-pub mod RoundTrip
 
 -- ---- Records and counts
 

@@ -1,0 +1,11 @@
+pub mod Claims
+pub mod Dockets
+pub mod OfDocket
+pub mod OfOrder
+pub mod OfPage
+pub mod OfPairs
+pub mod OfSheet
+pub mod OfTotals
+pub mod OfVersions
+pub mod OfWriter
+pub mod Samples

@@ -1,0 +1,9 @@
+pub mod Codes
+pub mod Exact
+pub mod Handover
+pub mod Lists
+pub mod Numbers
+pub mod Proved
+pub mod Refusals
+pub mod Says
+pub mod Weights

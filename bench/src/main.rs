@@ -285,7 +285,7 @@ fn fixed_checks() -> Vec<(String, Docket)> {
 }
 
 fn check_case<'a>(name: &str, docket: &'a [u8]) -> Case<'a> {
-    assert!(second::accepted(docket).is_ok(), "{name} is not accepted");
+    assert!(second::check(docket).is_ok(), "{name} is not accepted");
     Case {
         name: name.into(),
         unit: "check",
@@ -525,7 +525,7 @@ fn page_call<'a>(name: &str, docket: &'a [u8], before: &'a [u32], run_page: RunP
 }
 
 fn page_case<'a>(name: &str, docket: &'a [u8], counts: &'a [u32]) -> Case<'a> {
-    assert!(second::accepted(docket).is_ok(), "{name}: the docket is not accepted");
+    assert!(second::check(docket).is_ok(), "{name}: the docket is not accepted");
     Case {
         name: name.into(),
         unit: "group",
@@ -552,7 +552,7 @@ fn totals() -> Vec<(String, Vec<u8>, u64)> {
 /// The answer is a hash of the line. That of the proved implementation is printed by the program, and the start of its
 /// process is part of the time: the inputs are so large that it hardly counts.
 fn totals_case<'a>(name: &str, input: &'a [u8], starts: u64) -> Case<'a> {
-    assert!(second::accepted(&input[1..]).is_ok(), "{name}: the docket is not accepted");
+    assert!(second::check(&input[1..]).is_ok(), "{name}: the docket is not accepted");
     let lines: [fn(&[u8]) -> String; 3] = [
         |input| program::printed("tally", input),
         |input| second::tally_line(&Ok(baseline::tally(input).expect("totals"))),

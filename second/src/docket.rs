@@ -24,14 +24,6 @@ impl Refusal {
     }
 }
 
-/// What the check says of a docket that none of its tests refuses.
-#[derive(Clone, Copy, Debug, PartialEq, Eq)]
-pub enum Checked {
-    Accepted(Figures),
-    /// It has no tree, so tests 1 to 11 are all.
-    LadderOnly,
-}
-
 /// The figures of an accepted docket: S, R, L, N, W and M.
 #[derive(Clone, Copy, Debug, PartialEq, Eq)]
 pub struct Figures {
@@ -72,12 +64,6 @@ impl Rule {
     pub fn key(&self) -> [usize; 5] {
         let ([p, q], [p1, q1]) = (self.before, self.after);
         [self.layer, p, q, p1, q1]
-    }
-
-    /// The rule with this key.
-    pub(crate) fn of_key([layer, p, q, p1, q1]: [usize; 5]) -> Rule {
-        let (before, after) = ([p, q], [p1, q1]);
-        Rule { before, after, layer }
     }
 }
 
@@ -129,31 +115,20 @@ pub(crate) fn together<T: Copy + Add<Output = T>>(weights: &[T], pair: [usize; 2
 }
 
 /// Tests 1 to 14.
-pub fn check(docket: &[u8]) -> Result<Checked, Refusal> {
+pub fn check(docket: &[u8]) -> Result<Figures, Refusal> {
     let docket = parse(docket)?;
     ladder::lowering_test(&docket)?;
     ladder::handover_test(&docket)?;
     tree::leaf_weight_test(&docket)?;
-    if docket.nodes.is_empty() {
-        return Ok(Checked::LadderOnly);
-    }
     tree::tree_test(&docket)?;
-    Ok(Checked::Accepted(Figures {
+    Ok(Figures {
         states: docket.states.len() as u64,
         rules: docket.rules.len() as u64,
         layers: docket.weights.len() as u64,
         nodes: docket.nodes.len() as u64,
         spread_sum: ladder::spread_sum(&docket),
         widest: tree::widest(&docket),
-    }))
-}
-
-/// The check as a call makes it that wants an accepted docket: one without a tree is 13, 0.
-pub fn accepted(docket: &[u8]) -> Result<Figures, Refusal> {
-    match check(docket)? {
-        Checked::Accepted(figures) => Ok(figures),
-        Checked::LadderOnly => refuse(13, 0),
-    }
+    })
 }
 
 impl Figures {
@@ -174,11 +149,10 @@ impl Figures {
 /// The line that the program prints for these bytes.
 pub fn line(docket: &[u8]) -> String {
     match check(docket) {
-        Ok(Checked::Accepted(figures)) => format!(
+        Ok(figures) => format!(
             "accepted {}\n",
             figures.numbers().map(|number| number.to_string()).join(" ")
         ),
-        Ok(Checked::LadderOnly) => "ladder only\n".into(),
         Err(refusal) => refusal.line(),
     }
 }
@@ -212,7 +186,10 @@ pub(crate) fn read(version: u32, sections: [&[u8]; 5]) -> Result<Docket, Refusal
 
 /// Tests 1 to 4; hands back the version and the bytes of the five sections.
 pub fn sections(docket: &[u8]) -> Result<(u32, [&[u8]; 5]), Refusal> {
-    let version = version_of(docket)?;
+    if docket.len() < HEADER || u16_at(docket, 22) != docket.len() {
+        return refuse(1, 0);
+    }
+    let version = u16_at(docket, 0) as u32;
     version_test(version)?;
     let counts: [usize; 5] = std::array::from_fn(|i| u16_at(docket, 2 + 2 * i));
     count_test(counts)?;
@@ -225,14 +202,6 @@ pub fn sections(docket: &[u8]) -> Result<(u32, [&[u8]; 5]), Refusal> {
     Ok((version, std::array::from_fn(|i| &docket[ends[i]..ends[i + 1]])))
 }
 
-/// Test 1; hands back the version.
-pub(crate) fn version_of(docket: &[u8]) -> Result<u32, Refusal> {
-    if docket.len() < HEADER || u16_at(docket, 22) != docket.len() {
-        return refuse(1, 0);
-    }
-    Ok(u16_at(docket, 0) as u32)
-}
-
 /// Test 2.
 pub(crate) fn version_test(version: u32) -> Result<(), Refusal> {
     match version {
@@ -241,17 +210,12 @@ pub(crate) fn version_test(version: u32) -> Result<(), Refusal> {
     }
 }
 
-/// Test 3. There may be no node, but then there is no leaf either.
+/// Test 3.
 pub(crate) fn count_test(counts: [usize; 5]) -> Result<(), Refusal> {
-    let [_, r, l, n, k] = counts;
-    let limits = [2..=64, 0..=256, 0..=16, 0..=2048, 0..=128];
+    let [_, r, l, _, _] = counts;
+    let limits = [2..=64, 0..=256, 0..=16, 1..=2048, 0..=128];
     for (place, limit) in limits.iter().enumerate() {
-        let against_another = match place {
-            2 => (l == 0) != (r == 0),
-            3 => n == 0 && k > 0,
-            _ => false,
-        };
-        if !limit.contains(&counts[place]) || against_another {
+        if !limit.contains(&counts[place]) || (place == 2 && (l == 0) != (r == 0)) {
             return refuse(3, place);
         }
     }
@@ -343,15 +307,6 @@ fn layer_test(docket: &Docket) -> Result<(), Refusal> {
     Ok(())
 }
 
-/// What stands behind a 16-bit number, missing bytes of which are 0: so many bytes, or all where there are fewer, and the
-/// rest.
-pub(crate) fn split_by_length(input: &[u8]) -> (&[u8], &[u8]) {
-    let byte = |at: usize| input.get(at).copied().unwrap_or(0);
-    let length = usize::from(u16::from_le_bytes([byte(0), byte(1)]));
-    let rest = input.get(2..).unwrap_or(&[]);
-    rest.split_at(rest.len().min(length))
-}
-
 pub(crate) fn u16_at(bytes: &[u8], at: usize) -> usize {
     usize::from(u16::from_le_bytes([bytes[at], bytes[at + 1]]))
 }
@@ -368,7 +323,8 @@ fn read_state(record: &[u8]) -> State {
 
 fn read_rule(record: &[u8]) -> Rule {
     let [p, q, p1, q1, layer]: [usize; 5] = std::array::from_fn(|i| usize::from(record[i]));
-    Rule::of_key([layer, p, q, p1, q1])
+    let (before, after) = ([p, q], [p1, q1]);
+    Rule { before, after, layer }
 }
 
 fn read_layer(record: &[u8]) -> Vec<i64> {
@@ -572,7 +528,7 @@ mod tests {
             (5, 1, 3, 1),
             (4, 0, 3, 2),
             (6, 17, 3, 2),
-            (9, 8, 3, 3),
+            (8, 0, 3, 3),
         ];
         let offsets = [
             (12, 0, 4, 0),
@@ -614,74 +570,6 @@ mod tests {
         assert_eq!(said("2 3", "0 1 1 1 0", "1000001 0"), "refused 8 0\n");
         assert_eq!(said("2 3", "0 1 1 1 0", "1 0; 1 0"), "refused 8 1\n");
         assert_eq!(said("2 3", "", "1 0"), "refused 3 2\n");
-    }
-
-    /// Without a tree tests 1 to 11 decide, and the check says neither accepted nor refused.
-    #[test]
-    fn ladder_only() {
-        let said = |docket: &Docket| (line(&docket.bytes()), accepted(&docket.bytes()));
-        let (ladder, refused) = (("ladder only\n".into(), refuse(13, 0)), |line: &str| line.to_string());
-        let still = docket("2 3", "", "", "");
-        for docket in [still, broadcast(""), with_fixed(broadcast(""), [3, 1000])] {
-            assert_eq!(said(&docket), ladder);
-            assert_eq!(check(&docket.bytes()), Ok(Checked::LadderOnly));
-        }
-        let mut cut = parity();
-        (cut.nodes, cut.leaves) = (vec![], vec![]);
-        assert_eq!(said(&cut), ladder);
-        for (docket, line) in [
-            (docket("0 1", "0 1 1 1 0", "1 0", ""), "refused 5 2\n"),
-            (docket("2 3", "0 1 0 1 0", "1 0", ""), "refused 6 0\n"),
-            (docket("2 3", "0 1 1 1 0; 0 1 1 1 0", "1 0", ""), "refused 7 1\n"),
-            (docket("2 3", "0 1 1 1 0", "1000001 0", ""), "refused 8 0\n"),
-            (docket("2 3", "0 1 1 1 0", "0 0", ""), "refused 9 0\n"),
-            (
-                Docket {
-                    nodes: vec![],
-                    ..exchanged()
-                },
-                "refused 10 0\n",
-            ),
-            (
-                with_fixed(
-                    Docket {
-                        nodes: vec![],
-                        ..exchanged()
-                    },
-                    [0; 4],
-                ),
-                "refused 14 2\n",
-            ),
-        ] {
-            assert_eq!(said(&docket).0, refused(line));
-        }
-    }
-
-    /// Leaves without a node are 3, 3, as many as they may be.
-    #[test]
-    fn leaves_without_nodes() {
-        for version in [1, 2] {
-            for (leaves, line) in [
-                (0, "ladder only\n"),
-                (1, "refused 3 3\n"),
-                (128, "refused 3 3\n"),
-                (129, "refused 3 3\n"),
-                (5000, "refused 3 3\n"),
-            ] {
-                let (y1, y2) = (vec![0, 0], vec![0, 0]);
-                let docket = Docket {
-                    version,
-                    leaves: vec![Leaf { y1, y2 }; leaves],
-                    ..broadcast("")
-                };
-                assert_eq!(super::line(&docket.bytes()), line, "version {version}, {leaves} leaves");
-            }
-        }
-        let mut bytes = broadcast(TREE).bytes();
-        bytes[8] = 0;
-        assert_eq!(line(&bytes), "refused 4 4\n");
-        bytes[2] = 65;
-        assert_eq!(line(&bytes), "refused 3 0\n");
     }
 
     #[test]

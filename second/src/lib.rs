@@ -1,12 +1,11 @@
-//! A second implementation of the docket check, of its machine, of the writer, of the sheet of totals, of the check of
-//! claim sheets and of joint dockets, tested and not proved. It depends on nothing but Rust's standard library, so it
-//! checks dockets where the Rattle kit cannot be had.
+//! A second implementation of the docket check, of its machine, of the writer, of the sheet of totals and of the check of
+//! claim sheets, tested and not proved. It depends on nothing but Rust's standard library, so it checks dockets where the
+//! Rattle kit cannot be had.
 //!
 //! Sets and facts are arrays of bool, weights and their sums are signed numbers, and each test is a plain loop in the
 //! order of docs/FORMAT.md, so that it can be laid beside its line there.
 
 mod docket;
-mod join;
 mod ladder;
 mod machine;
 mod page;
@@ -16,10 +15,8 @@ mod tree;
 mod writer;
 
 pub use docket::{
-    accepted, check, line, parse, record_lengths, sections, state_length, Checked, Docket, Figures, Leaf, Node,
-    Refusal, Rule, State,
+    check, line, parse, record_lengths, sections, state_length, Docket, Figures, Leaf, Node, Refusal, Rule, State,
 };
-pub use join::{join, join_input, joint};
 pub use ladder::handover;
 pub use machine::{can_act, is_standstill, run, start_test, step, verdict, Ran, Verdict};
 pub use page::run_page;

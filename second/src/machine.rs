@@ -338,23 +338,6 @@ mod tests {
         assert!(met.iter().all(|&times| times > 20), "{met:?}");
     }
 
-    /// The calls make tests 1 to 8 alone, so they need no tree.
-    #[test]
-    fn ladder_only() {
-        let docket = Docket {
-            nodes: vec![],
-            ..majority()
-        };
-        let bytes = docket.bytes();
-        assert_eq!(start_test(&bytes, &[2, 1, 0, 0]), Ok(()));
-        assert_eq!(start_test(&bytes, &[2, 1, 0, 1]), refuse(22, 3));
-        assert_eq!(can_act(&bytes, &[2, 3, 0, 0], 0), Ok(6));
-        assert_eq!(is_standstill(&bytes, &[2, 1, 0, 0]), Ok(false));
-        assert_eq!(verdict(&bytes, &[1, 0, 2, 0]), Ok(Verdict::Zero));
-        assert_eq!(stepped(&docket, [1, 1, 0, 0], 0), [0, 0, 1, 1]);
-        runs(&docket, &[2, 1, 0, 0], u32::MAX, &[1, 0, 2, 0], 2, true);
-    }
-
     #[test]
     fn broadcast_counts() {
         let bytes = broadcast(TREE).bytes();

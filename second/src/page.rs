@@ -75,9 +75,6 @@ mod tests {
         runs(&with_fixed(majority(), [3, 0, 1, 1000]), 9, &groups);
         runs(&majority(), 9, &groups[..1]);
         runs(&majority(), 9, &groups[1..3]);
-        let mut no_tree = majority();
-        no_tree.nodes.clear();
-        runs(&no_tree, 9, &groups);
     }
 
     /// A group says rest at the limit too; the limit is one for each group and not for all together.
@@ -179,9 +176,9 @@ mod tests {
         no_rule.weights.push(vec![0; 4]);
         let mut out_of_order = with_fixed(majority(), [0; 4]);
         out_of_order.rules.swap(1, 2);
-        let mut no_node = parity();
-        no_node.nodes.clear();
-        for (docket, number, place) in [(&no_rule, 8, 2), (&out_of_order, 14, 2), (&no_node, 3, 3)] {
+        let mut no_tree = majority();
+        no_tree.nodes.clear();
+        for (docket, number, place) in [(&no_rule, 8, 2), (&out_of_order, 14, 2), (&no_tree, 3, 3)] {
             for (counts, results) in [(4, 2), (0, 0), (0, 2), (3, 2), (4, 1), (5, 3)] {
                 refuses(docket, &vec![1; counts], results, number, place);
             }

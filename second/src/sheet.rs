@@ -1,7 +1,6 @@
 //! The claim sheet: what a docket's protocol decides, test 15 on the bytes of the sheet, and its two trees.
 
-use crate::docket::{accepted, ends, node_bytes, parse, read_node, read_signed, refuse, split_by_length, u16_at};
-use crate::docket::{Docket, Node, Refusal};
+use crate::docket::{check, ends, node_bytes, parse, read_node, read_signed, refuse, u16_at, Docket, Node, Refusal};
 use crate::tree::{walk, wide, Tree, Weights, LEAF_WEIGHTS};
 
 /// The length of the header.
@@ -38,7 +37,7 @@ pub struct Sheet {
 
 /// The whole check of the docket, then test 15 on the sheet, then tests 12 and 13 on its first tree and on its second.
 pub fn check_sheet(docket: &[u8], sheet: &[u8]) -> Result<Claim, Refusal> {
-    accepted(docket)?;
+    check(docket)?;
     let docket = parse(docket)?;
     let sheet = parse_sheet(&docket, sheet)?;
     walk(&sheet.first_tree(&docket))?;
@@ -53,7 +52,10 @@ pub fn check_sheet(docket: &[u8], sheet: &[u8]) -> Result<Claim, Refusal> {
 /// What is said to the standard input of the program `decides`: a 16-bit number, missing bytes of which are 0, so many
 /// bytes of a docket, and the sheet behind them.
 pub fn decides(input: &[u8]) -> Result<Claim, Refusal> {
-    let (docket, sheet) = split_by_length(input);
+    let byte = |at: usize| input.get(at).copied().unwrap_or(0);
+    let length = usize::from(u16::from_le_bytes([byte(0), byte(1)]));
+    let rest = input.get(2..).unwrap_or(&[]);
+    let (docket, sheet) = rest.split_at(rest.len().min(length));
     check_sheet(docket, sheet)
 }
 
@@ -535,14 +537,12 @@ mod tests {
             (docket("2 3", "0 1 1 1 0", "0 0", TREE), "refused 9 0"),
             (broadcast("3 1 0 0; 1 1 0 0; 5 1 0 2; 6 2 0 2"), "refused 12 4"),
             (broadcast("1 2 0 0"), "refused 13 0"),
-            (broadcast(""), "refused 13 0"),
             (with_fixed(exchanged(), [0; 4]), "refused 14 2"),
             (broadcast(TREE), "refused 15 0"),
         ] {
             says(&docket, &bad, line);
             assert_eq!(said(&docket, &[]), line);
         }
-        says(&broadcast(""), &broadcast_sheet(), "refused 13 0");
         let cut = &broadcast(TREE).bytes()[..98];
         assert_eq!(check_sheet(cut, &broadcast_sheet().to_bytes()), refuse(1, 0));
         let trees = |first: &str, second: &str| sheet(&[0, 1], 1, first, second, &[(&[0, 0], 1)]);

@@ -1,6 +1,6 @@
 //! The sheet of exact totals: every start with n agents besides the fixed ones is run until it rests.
 
-use crate::docket::{accepted, parse, refuse, Docket, Refusal, State};
+use crate::docket::{check, parse, refuse, Docket, Refusal, State};
 use crate::machine::{run_to_rest, verdict_of, Verdict};
 use std::ops::RangeInclusive;
 
@@ -23,10 +23,10 @@ pub struct Totals {
 }
 
 /// What is said to the standard input of the program `tally`: one byte n, 0 if there is none, and the docket behind it.
-/// The check, which one without a tree does not pass, then test 34.
+/// The check, then test 34.
 pub fn tally(input: &[u8]) -> Result<Totals, Refusal> {
     let (&agents, docket) = input.split_first().unwrap_or((&0, &[]));
-    accepted(docket)?;
+    check(docket)?;
     let docket = parse(docket)?;
     let inputs = docket.states.iter().filter(|state| state.input).count();
     if inputs > MOST_INPUTS || !AGENTS.contains(&agents) {
@@ -215,8 +215,6 @@ mod tests {
             says(agents, &heavy, "refused 9 0");
             says(agents, &no_ground, "refused 13 2");
             says(agents, &nine, "refused 13 0");
-            says(agents, &broadcast(""), "refused 13 0");
-            says(agents, &docket(&["3"; 9].join(" "), "", "", ""), "refused 13 0");
             says(agents, &with_fixed(exchanged(), [0; 4]), "refused 14 2");
             assert_eq!(line(agents, &broadcast(TREE).bytes()[..98]), "refused 1 0\n");
             assert_eq!(line(agents, &[]), "refused 1 0\n");

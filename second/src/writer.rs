@@ -79,14 +79,7 @@ mod tests {
             with_fixed(broadcast(TREE), [0, 0]),
             with_fixed(refused.clone(), [1, 1000]),
         ];
-        let version_1 = [
-            broadcast(TREE),
-            broadcast(""),
-            majority(),
-            exchanged(),
-            parity(),
-            refused,
-        ];
+        let version_1 = [broadcast(TREE), majority(), exchanged(), parity(), refused];
         for docket in version_1.iter().chain(&version_2) {
             let bytes = docket.bytes();
             let (version, parts) = sections(&bytes).unwrap();
@@ -189,7 +182,7 @@ mod tests {
         for (place, record, counts) in [
             (1, 5, vec![257, 65_537]),
             (2, 8, vec![0, 17, 65_537]),
-            (3, 12, vec![2_049, 65_541]),
+            (3, 12, vec![0, 2_049, 65_541]),
             (4, 8, vec![129, 65_536]),
         ] {
             for count in counts {
@@ -198,23 +191,7 @@ mod tests {
         }
         assert_eq!(with(1, &[]), refuse(3, 2));
         assert_eq!(said([&[4, 4], &[0; 5], &[], &[], &[]], 0), refuse(3, 2));
-        assert_eq!(said([&[4, 4], &[], &[], &[], &[]], 0), refuse(5, 0));
-    }
-
-    /// There may be no node, but then there is no leaf either.
-    #[test]
-    fn no_node() {
-        assert_eq!(with(3, &[]), Ok(39));
-        for leaves in [1, 128, 129, 65_536] {
-            let leaves = vec![0; 8 * leaves];
-            assert_eq!(said([&[4, 4], &[], &[], &[], &leaves], 0), refuse(3, 3));
-            assert_eq!(told(2, [&[4; 6], &[], &[], &[], &leaves], 0), refuse(3, 3));
-        }
-        let ladder = with_fixed(broadcast(""), [0, 7]).bytes();
-        let (version, parts) = sections(&ladder).unwrap();
-        assert_eq!(told(version, parts, 43), Ok(43));
-        assert_eq!(told(version, parts, 42), refuse(30, 0));
-        assert_eq!(line(&ladder), "ladder only\n");
+        assert_eq!(said([&[4, 4], &[], &[], &[], &[]], 0), refuse(3, 3));
     }
 
     /// Each of these tests comes before all of the next ones.

@@ -38,8 +38,7 @@ fn text(bytes: &[u8]) -> String {
     String::from_utf8_lossy(bytes).into_owned()
 }
 
-/// Every docket of the corpus has the line of its .expect file; the exit status says whether it is accepted, which one
-/// without a tree is not.
+/// Every docket of the corpus has the line of its .expect file; the exit status says whether it is accepted.
 #[test]
 fn corpus() {
     let mut files = 0;
@@ -60,7 +59,7 @@ fn corpus() {
         );
         assert_eq!(text(&said.stderr), "", "{}", path.display());
     }
-    assert!(files >= 139, "{files} dockets in the corpus");
+    assert!(files >= 133, "{files} dockets in the corpus");
 }
 
 /// The cases of a file of the corpus: what stands before and behind the arrow.
@@ -92,125 +91,9 @@ fn tally_cases() {
     }
 }
 
-/// What `docket-second join` writes for these bytes, what it says on standard error, and its exit status.
-fn joined(input: &[u8]) -> (Vec<u8>, String, Option<i32>) {
-    let mut child = Command::new(env!("CARGO_BIN_EXE_docket-second"))
-        .arg("join")
-        .stdin(Stdio::piped())
-        .stdout(Stdio::piped())
-        .stderr(Stdio::piped())
-        .spawn()
-        .expect("the program");
-    // The program does not read all of an input that is too long.
-    let _ = child.stdin.take().map(|mut pipe| pipe.write_all(input));
-    let said = child.wait_with_output().expect("the program's output");
-    (said.stdout, text(&said.stderr), said.status.code())
-}
-
-fn refused_join(line: &str) -> (Vec<u8>, String, Option<i32>) {
-    (vec![], line.to_string(), Some(1))
-}
-
-/// Every case of joint.txt leaves its output, or has its refusal; the program, which has room enough, says the same but
-/// for test 37.
-#[test]
-fn joint_cases() {
-    let cases = cases("joint.txt");
-    assert_eq!(cases.len(), 10);
-    for (input, expected) in cases {
-        let [first, second, room] = input.split(' ').collect::<Vec<_>>()[..] else {
-            panic!("not two dockets and a length: {input}");
-        };
-        let (first, second) = (from_hexadecimal(first), from_hexadecimal(second));
-        let mut output = vec![0xaa; room.parse().expect("a length")];
-        let said = second::join(&first, &second, &mut output);
-        let of_program = joined(&with_length(&first, &second));
-        match said {
-            Ok(total) => {
-                let (length, whole) = expected.split_once(' ').expect("the total and the output");
-                assert_eq!((length, from_hexadecimal(whole)), (&*total.to_string(), output.clone()));
-                assert_eq!(of_program, (output[..total].to_vec(), String::new(), Some(0)));
-            }
-            Err(refusal) => {
-                assert_eq!(refusal.line(), format!("{expected}\n"));
-                assert!(output.iter().all(|&byte| byte == 0xaa));
-                if refusal.number == 37 {
-                    assert_eq!(of_program.2, Some(0));
-                } else {
-                    assert_eq!(of_program, refused_join(&refusal.line()));
-                }
-            }
-        }
-    }
-}
-
-/// What is written is a docket without a tree, which `docket-second` says; it is not joined again.
-#[test]
-fn joint_dockets() {
-    let read = |name: &str| std::fs::read(repository().join("examples").join(name)).expect("the example");
-    let (majority, broadcast) = (read("majority.docket"), read("broadcast.docket"));
-    let (joint, said_on_error, status) = joined(&with_length(&majority, &broadcast));
-    assert_eq!((&*said_on_error, status), ("", Some(0)));
-    assert_eq!(joint.len(), 24 + 8 + 5 * (4 * 4 + 16) + 4 * 8 * 3);
-    assert_eq!(second::line(&joint), "ladder only\n");
-    for (first, second) in [(&joint, &broadcast), (&broadcast, &joint), (&joint, &joint)] {
-        assert_eq!(joined(&with_length(first, second)), refused_join("refused 13 0\n"));
-    }
-    let parity = read("parity.docket");
-    assert_eq!(joined(&with_length(&majority, &parity)), refused_join("refused 35 0\n"));
-    let quorum = read("quorum.docket");
-    assert_eq!(joined(&with_length(&majority, &quorum)), refused_join("refused 2 0\n"));
-}
-
-/// Bytes that are missing: of the number they are 0, of a docket they are not there. A second docket of 65,535 bytes is
-/// read whole, and a longer one is refused for its length.
-#[test]
-fn short_and_long_inputs_of_join() {
-    let docket = std::fs::read(repository().join("examples/broadcast.docket")).expect("the example");
-    for input in [&[][..], &[99], &[99, 0], &[255, 255]] {
-        assert_eq!(joined(input), refused_join("refused 1 0\n"), "{input:?}");
-    }
-    for length in [98_u16, 99, 100, 65_535] {
-        let input = [&length.to_le_bytes(), &docket[..]].concat();
-        assert_eq!(joined(&input), refused_join("refused 1 0\n"), "{length}");
-    }
-    for (length, total, line) in [
-        (65_535, 65_535_u16, "refused 4 5\n"),
-        (65_536, 65_535, "refused 1 0\n"),
-        (65_536, 0, "refused 1 0\n"),
-        (65_536 + 99, 99, "refused 1 0\n"),
-        (300_000, 65_535, "refused 1 0\n"),
-    ] {
-        let mut long = docket.clone();
-        long.resize(length, 0);
-        long[22..24].copy_from_slice(&total.to_le_bytes());
-        assert_eq!(
-            joined(&with_length(&docket, &long)),
-            refused_join(line),
-            "{length} bytes"
-        );
-    }
-}
-
-/// A docket without a tree is not accepted by the programs that want an accepted one.
-#[test]
-fn ladder_only_dockets() {
-    let file = repository().join("tests/corpus/ladder_flock6_5.docket");
-    let docket = std::fs::read(&file).expect("a docket of the corpus");
-    let alone = run(&[], &file, Stdio::piped());
-    assert_eq!((&*text(&alone.stdout), alone.status.code()), ("ladder only\n", Some(1)));
-    let refused = ("refused 13 0\n".to_string(), Some(1));
-    for agents in [0, 2, 13] {
-        assert_eq!(said("tally", &[&[agents], &docket[..]].concat()), refused);
-    }
-    for sheet in [vec![], worked_sheet()] {
-        assert_eq!(said("decides", &with_length(&docket, &sheet)), refused);
-    }
-}
-
-/// A docket's length, the docket, and what stands behind it: a sheet for `decides`, a second docket for `join`.
-fn with_length(docket: &[u8], behind: &[u8]) -> Vec<u8> {
-    [&(docket.len() as u16).to_le_bytes(), docket, behind].concat()
+/// The standard input of `decides`: the docket's length, the docket and the sheet.
+fn with_sheet(docket: &[u8], sheet: &[u8]) -> Vec<u8> {
+    [&(docket.len() as u16).to_le_bytes(), docket, sheet].concat()
 }
 
 /// The numbers of a sheet for so many states, and its limit, each with a space before it.
@@ -234,7 +117,7 @@ fn claim_cases() {
             _ => (String::new(), 1),
         };
         let expected = (format!("{answer}{numbers}\n"), Some(status));
-        assert_eq!(said("decides", &with_length(&docket, &sheet)), expected, "{input}");
+        assert_eq!(said("decides", &with_sheet(&docket, &sheet)), expected, "{input}");
     }
 }
 
@@ -279,16 +162,16 @@ fn long_inputs_of_decides() {
     long_docket.resize(65_535, 0);
     long_docket[22..24].copy_from_slice(&65_535_u16.to_le_bytes());
     let sheet = worked_sheet();
-    let accepted = with_length(&docket, &sheet);
+    let accepted = with_sheet(&docket, &sheet);
     assert_eq!(said("decides", &accepted), ("accepted 0 1 1\n".into(), Some(0)));
     for length in [127, 65_535, 65_536, 65_536 + 126, 300_000] {
         let mut long = sheet.clone();
         long.resize(length, 0);
         let refused = ("refused 15 0\n".to_string(), Some(1));
-        assert_eq!(said("decides", &with_length(&docket, &long)), refused, "{length} bytes");
+        assert_eq!(said("decides", &with_sheet(&docket, &long)), refused, "{length} bytes");
         let refused = ("refused 4 5\n".to_string(), Some(1));
         assert_eq!(
-            said("decides", &with_length(&long_docket, &long)),
+            said("decides", &with_sheet(&long_docket, &long)),
             refused,
             "{length} bytes"
         );
@@ -298,7 +181,7 @@ fn long_inputs_of_decides() {
 /// A read that fails is not taken for the end of the file.
 #[test]
 fn input_that_cannot_be_read() {
-    for arguments in [&[][..], &["tally"], &["decides"], &["join"]] {
+    for arguments in [&[][..], &["tally"], &["decides"]] {
         let said = run(arguments, &repository(), Stdio::piped());
         assert_eq!((text(&said.stdout), said.status.code()), (String::new(), Some(2)));
         assert!(text(&said.stderr).starts_with("docket-second: standard input cannot be read: "));
@@ -315,28 +198,6 @@ fn output_that_cannot_be_written() {
     }
 }
 
-/// A joint docket, which has bytes and no line, is not lost without a word either.
-#[test]
-fn joint_docket_that_cannot_be_written() {
-    let docket = std::fs::read(repository().join("examples/broadcast.docket")).expect("the example");
-    let full = File::options().write(true).open("/dev/full").expect("/dev/full");
-    let mut child = Command::new(env!("CARGO_BIN_EXE_docket-second"))
-        .arg("join")
-        .stdin(Stdio::piped())
-        .stdout(full)
-        .stderr(Stdio::piped())
-        .spawn()
-        .expect("the program");
-    let written = child
-        .stdin
-        .take()
-        .map(|mut pipe| pipe.write_all(&with_length(&docket, &docket)));
-    assert!(written.is_some_and(|written| written.is_ok()));
-    let said = child.wait_with_output().expect("the program's output");
-    assert_eq!(said.status.code(), Some(2));
-    assert!(text(&said.stderr).starts_with("docket-second: standard output cannot be written: "));
-}
-
 /// Arguments that mean nothing are not passed over.
 #[test]
 fn other_arguments() {
@@ -344,7 +205,6 @@ fn other_arguments() {
         &["check"][..],
         &["tally", "tally"],
         &["decides", "tally"],
-        &["join", "join"],
         &["2"],
         &[""],
         &["--help"],
@@ -420,7 +280,7 @@ fn sheet_in_the_format_page() {
     let docket = std::fs::read(repository().join("examples/broadcast.docket")).expect("the example");
     let sheet = worked_sheet();
     assert_eq!(sheet.len(), 126);
-    let (line, status) = said("decides", &with_length(&docket, &sheet));
+    let (line, status) = said("decides", &with_sheet(&docket, &sheet));
     assert_eq!((&*line, status), ("accepted 0 1 1\n", Some(0)));
     assert!(worked_section().contains(&format!("`{}`", line.trim_end())));
 }

@@ -1,5 +1,4 @@
-//! A call of the machine, on a group or on a page, of the writer or for a joint docket, and what it says in the terms of
-//! `docket.h`.
+//! A call of the machine, on a group or on a page, or of the writer, and what it says in the terms of `docket.h`.
 
 use second::{Ran, Refusal, Verdict};
 
@@ -86,11 +85,6 @@ pub fn write(version: u32, parts: [&[u8]; 5], output: &mut [u8]) -> Said {
     second::write(version, parts, output).map_or_else(Said::refused, |total| Said::done(&[total as u64]))
 }
 
-/// What the second implementation says of two dockets, as docket_join says it: the total is the first answer.
-pub fn join(first: &[u8], second: &[u8], output: &mut [u8]) -> Said {
-    second::join(first, second, output).map_or_else(Said::refused, |total| Said::done(&[total as u64]))
-}
-
 fn in_64_bits(number: u128) -> u64 {
     u64::try_from(number).expect("a number of pairs of 64 bits")
 }
@@ -107,9 +101,9 @@ fn ran_numbers(ran: Ran) -> [u64; 2] {
     [ran.steps, u64::from(ran.rests)]
 }
 
-/// What the check of the second implementation says, as docket_check says it: 13, 0 where there is no tree.
+/// What the check of the second implementation says, as docket_check says it.
 pub fn check_code(docket: &[u8]) -> u64 {
-    second::accepted(docket).map_or_else(refusal_code, |_| 0)
+    second::check(docket).map_or_else(refusal_code, |_| 0)
 }
 
 /// What the second implementation says of a claim sheet, as docket_check_sheet says it.
@@ -130,6 +124,6 @@ pub fn refusal_by_code(code: u64) -> Option<Refusal> {
 
 /// What docket_figures says, by the second implementation: the code of the check, and the six figures where it accepts.
 pub fn figures(docket: &[u8]) -> (u64, [u64; 6]) {
-    let figures = second::accepted(docket).map_or([UNTOUCHED; 6], |figures| figures.numbers());
+    let figures = second::check(docket).map_or([UNTOUCHED; 6], |figures| figures.numbers());
     (check_code(docket), figures)
 }

@@ -4,8 +4,6 @@ pub mod calls;
 pub mod damage;
 pub mod fixed;
 pub mod groups;
-pub mod joins;
-pub mod ladders;
 pub mod make;
 pub mod native;
 pub mod order;

@@ -361,7 +361,7 @@ fn run_corpus(results: &mut Results) -> Vec<Docket> {
         let docket = std::fs::read(&path).expect("a docket of the corpus");
         let line = std::fs::read_to_string(path.with_extension("expect")).expect("its line");
         results.expect(&path.to_string_lossy(), line_problem(&docket, line.trim_end()));
-        if second::accepted(&docket).is_ok() {
+        if second::check(&docket).is_ok() {
             accepted.extend(second::parse(&docket));
             let problem = totals::accepted_problem(&docket);
             results.expect(&format!("totals: {}", path.display()), problem);
@@ -456,7 +456,7 @@ impl Pool {
     fn refused(&self, random: &mut Random) -> Vec<u8> {
         let (number, version) = (1 + random.below(14) as u32, 1 + random.below(2) as u8);
         let fits = |docket: &Vec<u8>| {
-            let refusal = second::accepted(docket).err();
+            let refusal = second::check(docket).err();
             refusal.is_some_and(|refusal| refusal.number == number) && (number < 9 || docket[0] == version)
         };
         let mut inputs = (0..400).map(|_| self.input(random));
@@ -541,7 +541,7 @@ fn remainder_families(random: &mut Random) -> Vec<Docket> {
         let ends = [0; 2].map(|_| random.word() % m.next_power_of_two());
         all.push(remainder::digits(m, ends));
     }
-    all.retain(|docket| second::accepted(&docket.bytes()).is_ok());
+    all.retain(|docket| second::check(&docket.bytes()).is_ok());
     all
 }
 

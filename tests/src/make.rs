@@ -1,7 +1,6 @@
 //! Families of accepted dockets.
 
 pub mod fixed;
-pub mod joint;
 pub mod remainder;
 pub mod sheet;
 
@@ -368,7 +367,7 @@ mod tests {
     use super::*;
 
     fn is_accepted(docket: &Docket) -> bool {
-        second::accepted(&docket.bytes()).is_ok()
+        second::check(&docket.bytes()).is_ok()
     }
 
     #[test]

@@ -64,15 +64,6 @@ extern "C" {
         out_len: usize,
         total: *mut u64,
     ) -> u64;
-    fn docket_join(
-        first: *const u8,
-        first_len: usize,
-        second: *const u8,
-        second_len: usize,
-        out: *mut u8,
-        out_len: usize,
-        total: *mut u64,
-    ) -> u64;
 }
 
 /// What docket_check returns: 0, or the number times 65,536 plus the place.
@@ -139,27 +130,6 @@ pub fn write(version: u32, parts: [&[u8]; 5], output: &mut [u8]) -> Said {
     let code = unsafe {
         docket_write(
             version, s, s_len, r, r_len, l, l_len, n, n_len, k, k_len, d, d_len, total,
-        )
-    };
-    Said { code, answers }
-}
-
-/// What docket_join says; the output is lent as it is.
-pub fn join(first: &[u8], second: &[u8], output: &mut [u8]) -> Said {
-    let (d, d_len) = (output.as_mut_ptr(), output.len());
-    let mut answers = [UNTOUCHED; 2];
-    let total = &mut answers[0];
-    // SAFETY: each pointer and length are those of one slice, the output and the answer are writable, and none overlap but
-    // the two dockets, which the library only reads.
-    let code = unsafe {
-        docket_join(
-            first.as_ptr(),
-            first.len(),
-            second.as_ptr(),
-            second.len(),
-            d,
-            d_len,
-            total,
         )
     };
     Said { code, answers }

@@ -107,11 +107,7 @@ type Change = (&'static str, fn(&mut Docket), &'static str);
 
 /// Changes of a table with its rules exchanged, which a test before 14 then refuses; with the line of both versions.
 const EARLIER_TESTS: [Change; 4] = [
-    (
-        "test 14 and 2,049 nodes",
-        |d| d.nodes.resize(2049, d.nodes[0]),
-        "refused 3 3",
-    ),
+    ("test 14 and no node", |d| d.nodes.clear(), "refused 3 3"),
     ("tests 14 and 5", |d| d.states[3].verdict = 4, "refused 5 3"),
     ("tests 14 and 6, a layer", |d| d.rules[0].layer = 1, "refused 6 0"),
     ("test 6, a layer in order", |d| d.rules[1].layer = 1, "refused 6 1"),

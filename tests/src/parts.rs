@@ -7,7 +7,7 @@ use second::{record_lengths, state_length};
 pub type Parts = [Vec<u8>; 5];
 
 /// The least and the greatest number of records of each part.
-const LIMITS: [(usize, usize); 5] = [(2, 64), (0, 256), (0, 16), (0, 2048), (0, 128)];
+const LIMITS: [(usize, usize); 5] = [(2, 64), (0, 256), (0, 16), (1, 2048), (0, 128)];
 
 /// The greatest number of 16 bits.
 const MOST_16: usize = 65_535;

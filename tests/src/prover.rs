@@ -191,9 +191,7 @@ pub fn prove(mut docket: Docket, random: &mut Random) -> Option<Docket> {
         half: None,
     };
     search.close(facts, 1)?;
-    second::accepted(&search.docket.bytes())
-        .is_ok()
-        .then_some(search.docket)
+    second::check(&search.docket.bytes()).is_ok().then_some(search.docket)
 }
 
 pub(crate) fn states_where(docket: &Docket, test: impl Fn(&State) -> bool) -> u64 {
@@ -484,7 +482,7 @@ mod tests {
             .states
             .iter_mut()
             .for_each(|state| state.fixed = state.fixed.min(most));
-        let refusal = second::accepted(&other.bytes()).err()?;
+        let refusal = second::check(&other.bytes()).err()?;
         Some(other.nodes[refusal.place as usize].kind)
     }
 

@@ -148,6 +148,7 @@ pub fn edges() -> Vec<Sample> {
             changed(broadcast(), too_many_rules),
             "refused 3 1",
         ),
+        ("no node", changed(broadcast(), |d| d.nodes.clear()), "refused 3 3"),
         (
             "2,049 nodes",
             changed(largest(), |d| d.nodes.push(node(1, 2, 0))),

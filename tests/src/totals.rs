@@ -7,7 +7,7 @@ pub use random::{random_docket, random_input};
 
 use crate::calls::{refusal_by_code, Call};
 use crate::make::fixed::{self, with_fixed};
-use crate::make::{self, joint, remainder};
+use crate::make::{self, remainder};
 use crate::native;
 use crate::outcomes::with_rules;
 use crate::pages::with_bytes;
@@ -115,41 +115,13 @@ test 11 | corpus r11_before_12 | refused 11 0
 test 12 | broadcast with 39=9 | refused 12 0
 test 13 | broadcast with 67=1 | refused 13 2
 9 inputs, test 13 | 9 inputs with 34=1 | refused 13 0
-no tree | broadcast without a tree | refused 13 0
-no tree, no rule | no rule without a tree | refused 13 0
-no tree, leaves | parity without nodes | refused 3 3
-no tree, test 9 | broadcast without a tree with 31=0 | refused 9 0
-no tree, 9 inputs | 9 inputs without a tree | refused 13 0
-no tree, fixed agents | version 2, broadcast without a tree | refused 13 0
-no tree, test 14 | version 2, two outcomes without a tree with 34=2 | refused 14 1
 ";
 
 /// The numbers of agents that the refused dockets are tried with.
 const AGENTS: [u8; 4] = [2, 12, 0, 13];
 
-/// The docket of a name: one of the corpus, one made here, one of `pairs::tables` or of `joint::named`; `inputs` are other
-/// ones. `without a tree` it has neither nodes nor leaves, and `without nodes` leaves alone.
+/// The docket of a name: one of the corpus, one made here, or one of `pairs::tables`.
 fn table(name: &str) -> Docket {
-    let (name, without) = name.split_once(" without ").unwrap_or((name, ""));
-    let (name, inputs) = name.split_once(", inputs ").unwrap_or((name, ""));
-    let mut docket = whole_table(name);
-    if !inputs.is_empty() {
-        let places: Vec<usize> = numbers(inputs).into_iter().map(|place: i64| place as usize).collect();
-        docket = joint::with_inputs(docket, &places);
-    }
-    if !without.is_empty() {
-        docket.nodes.clear();
-    }
-    if without == "a tree" {
-        docket.leaves.clear();
-    }
-    docket
-}
-
-fn whole_table(name: &str) -> Docket {
-    if let Some(docket) = joint::named(name) {
-        return docket;
-    }
     if let Some(file) = name.strip_prefix("corpus ") {
         let folder = Path::new(env!("CARGO_MANIFEST_DIR")).join("corpus");
         let bytes = std::fs::read(folder.join(format!("{file}.docket"))).expect("a docket of the corpus");
@@ -175,7 +147,7 @@ fn whole_table(name: &str) -> Docket {
 }
 
 /// The bytes of a docket as the samples have it.
-pub(crate) fn named(text: &str) -> Vec<u8> {
+fn named(text: &str) -> Vec<u8> {
     let (text, length) = text.split_once(" to ").unwrap_or((text, ""));
     let (text, changes) = text.split_once(" with ").unwrap_or((text, ""));
     let (name, agents) = text.split_once(", fixed ").unwrap_or((text, ""));

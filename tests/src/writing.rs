@@ -92,30 +92,15 @@ neither rule nor layer | broadcast 1=- 2=- | total | written
 16 layers, one with a rule | broadcast 2=00*128 | total | refused 8 1
 17 layers | broadcast 2=00*136 | total | refused 3 2
 65,537 layers | broadcast 2=00*524296 | total | refused 3 2
-no node | broadcast 3=- | total | written
-no node, one byte too short | broadcast 3=- | total-1 | refused 30 0
-no node, one leaf | broadcast 3=- 4=00*8 | total | refused 3 3
-no node, 128 leaves | broadcast 3=- 4=00*1024 | total | refused 3 3
-no node, neither rule nor layer | broadcast 1=- 2=- 3=- | 26 | written
-no node, neither rule nor layer, one byte too short | broadcast 1=- 2=- 3=- | 25 | refused 30 0
-no node, a ladder that falls nowhere | broadcast 2=00*8 3=- | total | written
-no node, no input | broadcast 0=0001 3=- | total | refused 5 2
-no node, equal pairs | broadcast 1=0001000100 3=- | total | refused 6 0
-no node, equal rules | broadcast 1=0001010100*2 3=- | total | refused 7 1
-no node, weight 1,000,001 | broadcast 2=00*4+41420f00 3=- | total | refused 8 0
-no node, 64 states | broadcast 0=02*64 2=00*256 3=- | total | written
+no node | broadcast 3=- | total | refused 3 3
 2,049 nodes | broadcast 3=00*24588 | total | refused 3 3
 65,537 nodes | broadcast 3=00*786444 | total | refused 3 3
 128 leaves | broadcast 4=00*1024 | total | written
 129 leaves | broadcast 4=00*1032 | total | refused 3 4
 65,536 leaves | broadcast 4=00*524288 | total | refused 3 4
 no node, 129 leaves | broadcast 3=- 4=00*1032 | total | refused 3 3
-no node, 65,536 leaves | broadcast 3=- 4=00*524288 | total | refused 3 3
-test 3 before test 5 | broadcast 0=0207 4=00*1032 | total | refused 3 4
-test 3 before test 5, no node | broadcast 0=0207 3=- 4=00*8 | total | refused 3 3
-test 3 before test 11, no node | broadcast 3=- 4=1127*4 | total | refused 3 3
-test 3 before test 30 | broadcast 4=00*1032 | 0 | refused 3 4
-test 3 before test 30, no node | broadcast 3=- 4=00*8 | 0 | refused 3 3
+test 3 before test 5 | broadcast 0=0207 3=- | total | refused 3 3
+test 3 before test 30 | broadcast 3=- | 0 | refused 3 3
 bit 2 of state 0 | broadcast 0=0703 | total | refused 5 0
 bit 7 of state 1 | broadcast 0=0283 | total | refused 5 1
 no input | broadcast 0=0001 | total | refused 5 2
@@ -193,11 +178,7 @@ version 2, 65,538 states, a layer of 2 | fixed 0=020000*65538 | total | refused 
 version 2, 65,538 states and one byte | fixed 0=020000*65538+02 | total | refused 31 0
 version 2, 21,846 states in 65,538 bytes | fixed 0=020000*21846 2=- 1=- | total | refused 3 0
 version 2, 257 rules | fixed 1=0001010100*257 | total | refused 3 1
-version 2, no node | fixed 3=- | total | written
-version 2, no node, one byte too short | fixed 3=- | total-1 | refused 30 0
-version 2, no node, one leaf | fixed 3=- 4=00*8 | total | refused 3 3
-version 2, no node, 129 leaves | fixed 3=- 4=00*1032 | total | refused 3 3
-version 2, no node, rules in no order | fixed 1=0001010100+0000010100 3=- | total | refused 14 1
+version 2, no node | fixed 3=- | total | refused 3 3
 fixed numbers at the limit | fixed 0=02e803+03e803 | total | written
 fixed number 1,001 in state 0 | fixed 0=02e903+030000 | total | refused 5 0
 fixed number 1,001 in state 1 | fixed 0=020000+03e903 | total | refused 5 1
@@ -228,8 +209,7 @@ equal rules, side by side in two layers, version 2 | fixed 1=0001010100+00010101
 equal rules, side by side in falling layers, version 2 | fixed 1=0001010101+0001010100 2=00*16 | total | refused 7 1
 test 2 before test 14 | fixed v=3 1=0001010100+0000010100 | total | refused 2 0
 test 31 before test 14 | fixed 1=0001010100+0000010100 4=00 | total | refused 31 4
-test 3 before test 14 | fixed 1=0001010100+0000010100 4=00*1032 | total | refused 3 4
-test 3 before test 14, no node | fixed 1=0001010100+0000010100 3=- 4=00*8 | total | refused 3 3
+test 3 before test 14 | fixed 1=0001010100+0000010100 3=- | total | refused 3 3
 test 5 before test 14 | fixed 0=020000+03e903 1=0001010100+0000010100 | total | refused 5 1
 test 6 before test 14, at a later rule | fixed 1=0001010100+0000010100+0001000100 | total | refused 6 2
 test 6 before test 14, at an earlier rule | fixed 1=0001000100+0001010100+0000010100 | total | refused 6 0

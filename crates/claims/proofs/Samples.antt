@@ -13,7 +13,7 @@ use Rattle.shape.specs.Sound.{SoundShape}
 use Rattle.leaf.specs.Leaf.{bad_leaf}
 use Rattle.checker.specs.Check.{sections_check, check_of}
 use Rattle.writer.specs.Write.{output_of}
-use Rattle.writer.proofs.Write.Laws.{bytes_are}
+use Rattle.writer.proofs.WriteLaws.{bytes_are}
 use Rattle.writer.specs.Samples.{writing, parts}
 use Rattle.machine.specs.Calls.{start_answer, start_of, pairs_answer, pairs_of, verdict_answer, verdict_of, reply_of, counts_of}
 use Rattle.page.specs.Page.{each_part, page_of, counts_after_page, results_after_page}

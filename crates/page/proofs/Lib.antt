@@ -1,2 +1,2 @@
-pub mod Code
-pub mod Page
+pub mod CodeLaws
+pub mod PageLaws

@@ -1,2 +1,3 @@
-pub mod Shape
-pub mod Sound
+pub mod ShapeLaws
+pub mod MarkLaws
+pub mod SoundLaws

@@ -1,2 +1,3 @@
-pub mod Code
-pub mod Totals
+pub mod CodeLaws
+pub mod TallyLaws
+pub mod TotalsLaws

@@ -1,2 +1,3 @@
-pub mod Code
-pub mod Write
+pub mod CodeLaws
+pub mod WriteLaws
+pub mod RoundTripLaws

@@ -485,7 +485,7 @@ mod tests {
         assert_eq!(docket.states, example.states);
         assert_eq!(docket.rules, example.rules);
         assert_eq!(docket.weights, example.weights);
-        assert_eq!(second::accepted(&docket.bytes()).map(|f| f.nodes), Ok(715));
+        assert_eq!(second::check(&docket.bytes()).map(|f| f.nodes), Ok(715));
     }
 
     fn is_accepted((docket, sheet): &Claimed) -> bool {

@@ -195,7 +195,7 @@ impl Tree<'_> {
 
 /// The docket's check, then test 15 but for one of its rules, if one is named.
 fn right_read(docket: &[u8], sheet: &[u8], without: Option<usize>) -> Reading {
-    second::accepted(docket)?;
+    second::check(docket)?;
     let docket = second::parse(docket)?;
     let parts = Parts::read(docket.states.len(), sheet);
     let mut rules = RULES.iter().enumerate().filter(|(i, _)| Some(*i) != without);
@@ -234,7 +234,7 @@ const READS: [Wrong<Read>; 4] = [
 
 /// Leaves that no node names are not looked at.
 fn named_leaves_alone(docket: &[u8], sheet: &[u8]) -> Reading {
-    second::accepted(docket)?;
+    second::check(docket)?;
     let docket = second::parse(docket)?;
     let mut parts = Parts::read(docket.states.len(), sheet);
     let Sheet {

@@ -94,7 +94,7 @@ impl Fixed {
         if other == *docket {
             return;
         }
-        let refused_at = match (number, second::accepted(&other.bytes())) {
+        let refused_at = match (number, second::check(&other.bytes())) {
             (0, Err(refusal)) if refusal.number == 13 => refusal.place as usize,
             (13, Ok(_)) => place,
             _ => return,

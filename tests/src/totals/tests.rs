@@ -71,7 +71,7 @@ fn by_second(input: &[u8]) -> Result<Vec<Run>, Refusal> {
 }
 
 fn check(docket: &[u8]) -> Option<Refusal> {
-    second::accepted(docket).err()
+    second::check(docket).err()
 }
 
 fn refused_34(agents: u8, docket: &[u8]) -> Option<Refusal> {
@@ -431,7 +431,7 @@ fn starts_with_fixed_agents() {
 #[test]
 fn long_runs_are_answered() {
     for (name, docket, agents) in long_runs() {
-        assert!(second::accepted(&docket.bytes()).is_ok(), "{name}");
+        assert!(second::check(&docket.bytes()).is_ok(), "{name}");
         assert_eq!(test_34(&docket, agents), [false, false], "{name}");
     }
 }
@@ -443,7 +443,7 @@ fn random_dockets() {
     let (mut met, mut fixed) = (BTreeSet::new(), BTreeSet::new());
     for _ in 0..500 {
         let docket = random_docket(&mut random);
-        assert!(second::accepted(&docket.bytes()).is_ok());
+        assert!(second::check(&docket.bytes()).is_ok());
         met.insert(inputs(&docket));
         fixed.extend(docket.states.iter().map(|state| (state.input, state.fixed > 0)));
     }

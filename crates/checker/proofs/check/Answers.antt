@@ -1,7 +1,7 @@
 -- `checker::check` meets its contract: a refused shape is passed back.
 use Rattle.checker.specs.Check.{check_of}
-use Rattle.shape.proofs.Shape.Laws.{sound_then, sound_else}
-use Rattle.shape.proofs.Sound.Laws.{sound_at}
+use Rattle.shape.proofs.ShapeLaws.{sound_then, sound_else}
+use Rattle.shape.proofs.SoundLaws.{sound_at}
 use Rattle.std.proofs.Common.{rules}
 use Rattle.checker.proofs.check.Goals as goal
 

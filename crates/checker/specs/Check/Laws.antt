@@ -14,7 +14,7 @@ use Rattle.format.specs.declared.Sizes.{Sizes}
 use Rattle.format.specs.declared.Header.{Header}
 use Rattle.shape.specs.Shape.{refusal, by_shape, shape_of}
 use Rattle.shape.specs.Sound.{SoundShape}
-use Rattle.shape.proofs.Sound.Laws.{sound_shape, sound_rules}
+use Rattle.shape.proofs.SoundLaws.{sound_shape, sound_rules}
 use Rattle.shape.specs.Code.{SoundRules}
 use Rattle.shape.specs.declared.Refusal.{Refusal}
 use Rattle.shape.specs.declared.Shape.{Shape}

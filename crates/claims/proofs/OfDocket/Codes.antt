@@ -17,7 +17,7 @@ use Rattle.format.specs.Format.{header_of, sections_of, protocol_in, layers_in}
 use Rattle.format.specs.declared.Header.{Header}
 use Rattle.shape.specs.Shape.{refusal, shape_tests, shape_of, by_shape}
 use Rattle.shape.specs.Sound.{Limits, SoundShape}
-use Rattle.shape.proofs.Sound.Laws.{limits, sound_shape}
+use Rattle.shape.proofs.SoundLaws.{limits, sound_shape}
 use Rattle.shape.specs.declared.Refusal.{Refusal}
 use Rattle.shape.specs.declared.Shape as shapes
 use Rattle.shape.specs.declared.Shape.TheVariants as shape

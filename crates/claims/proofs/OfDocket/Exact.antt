@@ -21,7 +21,7 @@ use Rattle.format.specs.Format.{Sections, sections_of, protocol_in, layers_in, w
 use Rattle.format.specs.declared.Header.{Header}
 use Rattle.shape.specs.Shape.{by_shape}
 use Rattle.shape.specs.Sound.{SoundShape}
-use Rattle.shape.proofs.Sound.Laws.{shape_sound}
+use Rattle.shape.proofs.SoundLaws.{shape_sound}
 use Rattle.leaf.specs.Leaf.Laws.{leaf_good, leaf-bad}
 use Rattle.checker.specs.Check.{certificate_tests, walk_of, summary_of, tree_check, sections_check, check_of}
 use Rattle.checker.specs.Check.Laws.{refused_not_accepted, accepted_tests, accepted_shape, passes_laddered}

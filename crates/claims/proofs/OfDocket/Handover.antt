@@ -11,7 +11,7 @@ use Rattle.format.specs.Format.{header_of, sections_of, protocol_in, layers_in}
 use Rattle.format.specs.declared.Header.{Header}
 use Rattle.shape.specs.Shape.{by_shape, shape_of}
 use Rattle.shape.specs.Sound.{SoundShape}
-use Rattle.shape.proofs.Sound.Laws.{sound_shape}
+use Rattle.shape.proofs.SoundLaws.{sound_shape}
 use Rattle.shape.specs.declared.Shape as shapes
 use Rattle.shape.specs.declared.Shape.TheVariants as shape
 use Rattle.checker.specs.Check.{walk_of, summary_of, tree_check, sections_check, check_of}

@@ -16,7 +16,7 @@ use Rattle.format.specs.Format.{protocol_in, layers_in}
 use Rattle.format.specs.declared.Header.{Header}
 use Rattle.shape.specs.Shape.{refusal, shape_of, by_shape}
 use Rattle.shape.specs.Sound.{SoundShape}
-use Rattle.shape.proofs.Sound.Laws.{sound_shape, shape_sound}
+use Rattle.shape.proofs.SoundLaws.{sound_shape, shape_sound}
 use Rattle.shape.specs.declared.Refusal.{Refusal}
 use Rattle.shape.specs.declared.Shape as shapes
 use Rattle.machine.specs.Calls.{start_answer, pairs_answer, terminal_answer, verdict_as, verdict_answer}

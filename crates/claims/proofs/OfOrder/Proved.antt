@@ -27,7 +27,7 @@ use Rattle.format.specs.declared.Header.{Header}
 use Rattle.format.specs.declared.Rule.{Rule}
 use Rattle.shape.specs.Shape.{refusal, same_rule, not_after, repeats, out_of_order, shape_tests, shape_of, by_shape}
 use Rattle.shape.specs.Sound.{InOrder}
-use Rattle.shape.proofs.Sound.Laws.{same_rule_lem, sound_lengths}
+use Rattle.shape.proofs.SoundLaws.{same_rule_lem, sound_lengths}
 use Rattle.shape.specs.declared.Shape.TheVariants.{Refused}
 use Rattle.checker.specs.Check.{certificate_tests, sections_check, check_of}
 use Rattle.checker.specs.declared.Checked.TheVariants as checked

@@ -24,15 +24,15 @@ use Rattle.format.specs.Format.{header_of, protocol_in, layers_in, weight_in}
 use Rattle.format.specs.declared.Header.{Header}
 use Rattle.shape.specs.Shape.{refusal, shape_tests, header_shape, shape_of, by_shape}
 use Rattle.shape.specs.Sound.{SoundShape}
-use Rattle.shape.proofs.Sound.Laws.{sound_shape, shape_sound}
+use Rattle.shape.proofs.SoundLaws.{sound_shape, shape_sound}
 use Rattle.shape.specs.declared.Refusal.{Refusal}
 use Rattle.shape.specs.declared.Shape.TheVariants as shape
 use Rattle.machine.specs.Calls.{verdict_of, reply_of, counts_of}
 use Rattle.machine.specs.Code.Laws.{counts_sound}
 use Rattle.page.specs.Page.{part_at, each_part, result_of, page_tests, page_of, unless_refused, counts_after_page, results_after_page}
-use Rattle.page.proofs.Page.Laws.{part_within, part_length, each-length, part_of_each, parts-only}
+use Rattle.page.proofs.PageLaws.{part_within, part_length, each-length, part_of_each, parts-only}
 use Rattle.page.specs.Code.{run_counts}
-use Rattle.page.proofs.Code.Laws.{run_length, two_long}
+use Rattle.page.proofs.CodeLaws.{run_length, two_long}
 use Rattle.page.specs.declared.Paged.{Paged}
 use Rattle.page.specs.declared.Paged.TheVariants.{Done, Refused}
 use Rattle.codes.specs.Codes.{page_code}

@@ -36,10 +36,10 @@ use Rattle.checker.specs.Check.{check_of}
 use Rattle.checker.specs.declared.Checked.{Checked}
 use Rattle.checker.specs.declared.Checked.TheVariants as checked
 use Rattle.totals.specs.Totals.{is_agreed, steps_to_rest, rests_on, resting_on, steps_at, totals_of, first_most, beyond, Allowed, refused_sheet, full_sheet, sheet_in, sheet_of}
-use Rattle.totals.proofs.Totals.Laws.{beyond_none, none_beyond, in_refused, in_full, runs_accepted, sheet_accepted, sheet_refused}
+use Rattle.totals.proofs.TotalsLaws.{beyond_none, none_beyond, in_refused, in_full, runs_accepted, sheet_accepted, sheet_refused}
 use Rattle.totals.specs.Code.{Runs, Group}
-use Rattle.totals.proofs.Code.Laws.{group_admitted, bound_small}
-use Rattle.totals.proofs.Code.Tally.{start_group}
+use Rattle.totals.proofs.CodeLaws.{group_admitted, bound_small}
+use Rattle.totals.proofs.TallyLaws.{start_group}
 use Rattle.totals.specs.declared.Totals.{Totals}
 use Rattle.totals.specs.declared.Tallied.{Tallied}
 use Rattle.totals.specs.declared.Tallied.TheVariants.{Counted, Refused}

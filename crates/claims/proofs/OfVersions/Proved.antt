@@ -17,7 +17,7 @@ use Rattle.format.specs.declared.Header.{Header}
 use Rattle.shape.specs.Shape.{refusal, bad_state, bad_layer, section_tests, header_tests}
 use Rattle.shape.specs.Shape.{shape_of, by_shape}
 use Rattle.shape.specs.Sound.{Limits, InOrder, SoundShape}
-use Rattle.shape.proofs.Sound.Laws.{header_passes, clear_order, sound_passes, sound_lengths, shape_sound}
+use Rattle.shape.proofs.SoundLaws.{header_passes, clear_order, sound_passes, sound_lengths, shape_sound}
 use Rattle.shape.specs.declared.Refusal.{Refusal}
 use Rattle.shape.specs.declared.Shape.TheVariants.{Refused}
 use Rattle.leaf.specs.Leaf.{bad_leaf}
@@ -29,8 +29,8 @@ use Rattle.machine.specs.declared.Pairs.TheVariants as paired
 use Rattle.machine.specs.declared.YesNo.TheVariants as yesNo
 use Rattle.machine.specs.declared.Verdict.TheVariants as shown
 use Rattle.writer.specs.Write.{records, sizes_in, WholeRecords, header_for}
-use Rattle.writer.proofs.Write.Laws.{docket_length}
-use Rattle.writer.proofs.Write.RoundTrip.{header_same, sections_same, written_laid, written_sound, sizes_same}
+use Rattle.writer.proofs.WriteLaws.{docket_length}
+use Rattle.writer.proofs.RoundTripLaws.{header_same, sections_same, written_laid, written_sound, sizes_same}
 use Rattle.claims.specs.OfOrder.{FirstNotAfter, earlier_tests}
 use Rattle.claims.proofs.OfOrder.Proved.{of_order}
 use Rattle.claims.specs.OfVersions.{widened, in_version2, Alike, OfVersions}

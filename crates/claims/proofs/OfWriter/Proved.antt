@@ -17,7 +17,7 @@ use Rattle.format.specs.declared.Sizes.{Sizes}
 use Rattle.format.specs.declared.Header.{Header}
 use Rattle.shape.specs.Shape.{refusal, nth, wrong_version, version_test, count_test, section_tests, shape_tests}
 use Rattle.shape.specs.Sound.{IsVersion, Limits, SoundShape}
-use Rattle.shape.proofs.Sound.Laws.{version_passes, limits, sound_passes}
+use Rattle.shape.proofs.SoundLaws.{version_passes, limits, sound_passes}
 use Rattle.shape.specs.declared.Refusal.{Refusal}
 use Rattle.leaf.specs.Leaf.{bad_leaf, leaf_test}
 use Rattle.leaf.specs.Leaf.Laws.{leaf_good, leaf-bad}
@@ -25,8 +25,8 @@ use Rattle.checker.specs.Check.{certificate_tests, check_of}
 use Rattle.checker.specs.declared.Checked.TheVariants as checked
 use Rattle.writer.specs.Write.{lengths_of, length_faults, sizes_in, WholeRecords, AreBytes, header_for, docket_of}
 use Rattle.writer.specs.Write.{length_test, record_tests, room_test, part_tests, write_tests, write_of, output_of, written}
-use Rattle.writer.proofs.Write.Laws.{whole_records, whole_clear, docket_length, total-length, total_by_width, room_passes}
-use Rattle.writer.proofs.Write.RoundTrip.{header_same, sections_same, written_sound, written-again, again-passes}
+use Rattle.writer.proofs.WriteLaws.{whole_records, whole_clear, docket_length, total-length, total_by_width, room_passes}
+use Rattle.writer.proofs.RoundTripLaws.{header_same, sections_same, written_sound, written-again, again-passes}
 use Rattle.writer.specs.declared.Written.{Written}
 use Rattle.writer.specs.declared.Written.TheVariants.{Total, Refused}
 use Rattle.codes.specs.Codes.{write_code}

@@ -1,7 +1,7 @@
 -- `machine::can_act` meets its contract: a refused shape is passed back.
 use Rattle.machine.specs.Calls.{pairs_of}
-use Rattle.shape.proofs.Shape.Laws.{sound_then, sound_else}
-use Rattle.shape.proofs.Sound.Laws.{sound_at}
+use Rattle.shape.proofs.ShapeLaws.{sound_then, sound_else}
+use Rattle.shape.proofs.SoundLaws.{sound_at}
 use Rattle.std.proofs.Common.{rules}
 use Rattle.machine.proofs.can_act.Goals as goal
 

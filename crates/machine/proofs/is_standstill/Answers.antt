@@ -1,7 +1,7 @@
 -- `machine::is_standstill` meets its contract: a refused shape is passed back.
 use Rattle.machine.specs.Calls.{terminal_of}
-use Rattle.shape.proofs.Shape.Laws.{sound_then, sound_else}
-use Rattle.shape.proofs.Sound.Laws.{sound_at}
+use Rattle.shape.proofs.ShapeLaws.{sound_then, sound_else}
+use Rattle.shape.proofs.SoundLaws.{sound_at}
 use Rattle.std.proofs.Common.{rules}
 use Rattle.machine.proofs.is_standstill.Goals as goal
 

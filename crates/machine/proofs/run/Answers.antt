@@ -1,5 +1,5 @@
 -- `machine::run` meets its contract: a refused shape is passed back.
-use Rattle.shape.proofs.Sound.Laws.{sound_at}
+use Rattle.shape.proofs.SoundLaws.{sound_at}
 use Rattle.machine.specs.Code.Laws.{replies_sound, replies_refused}
 use Rattle.std.proofs.Common.{rules}
 use Rattle.machine.proofs.run.Goals as goal

@@ -25,10 +25,10 @@ use Rattle.format.specs.Code.{has_flag}
 use Rattle.format.specs.declared.Header.{Header}
 use Rattle.format.specs.declared.Flag.TheVariants.{Output}
 use Rattle.shape.specs.Shape.{refusal, shape_of, by_shape}
-use Rattle.shape.proofs.Shape.Laws.{sound_then, sound_else}
+use Rattle.shape.proofs.ShapeLaws.{sound_then, sound_else}
 use Rattle.shape.specs.Code.{refusal_of}
 use Rattle.shape.specs.Sound.{SoundShape}
-use Rattle.shape.proofs.Sound.Laws.{shape_sound}
+use Rattle.shape.proofs.SoundLaws.{shape_sound}
 use Rattle.shape.specs.declared.Refusal.{Refusal}
 use Rattle.shape.specs.declared.Shape.{Shape}
 use Rattle.shape.specs.declared.Shape.TheVariants.{Sound, Refused}

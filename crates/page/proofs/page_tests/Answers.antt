@@ -1,6 +1,6 @@
 -- `page::page_tests` meets its contract: each return is one case of the two tests.
 use Rattle.std.proofs.Common.{rules, arith}
-use Rattle.page.proofs.Code.Laws.{twice_most, tested}
+use Rattle.page.proofs.CodeLaws.{twice_most, tested}
 use Rattle.page.proofs.page_tests.Goals as goal
 
 pub returns-then-not_groups : goal.returns-then-not_groups

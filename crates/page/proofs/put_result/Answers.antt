@@ -1,6 +1,6 @@
 -- `page::put_result` meets its contract: two numbers are written, by the case of the run.
 use Rattle.std.proofs.Common.{rules}
-use Rattle.page.proofs.Code.Laws.{second_fits, put_ran, put_refused}
+use Rattle.page.proofs.CodeLaws.{second_fits, put_ran, put_refused}
 use Rattle.page.proofs.put_result.Goals as goal
 
 pub bounds-results-second : goal.bounds-results-second

@@ -1,7 +1,7 @@
 -- `page::run_page` meets its contract: a refusal is passed back and leaves both buffers; else all groups are run.
 use Rattle.std.proofs.Common.{rules}
-use Rattle.shape.proofs.Sound.Laws.{sound_at}
-use Rattle.page.proofs.Code.Laws.{answers}
+use Rattle.shape.proofs.SoundLaws.{sound_at}
+use Rattle.page.proofs.CodeLaws.{answers}
 use Rattle.page.proofs.run_page.Goals as goal
 
 pub returns-in_default : goal.returns-in_default

@@ -2,7 +2,7 @@
 use Rattle.std.proofs.Common.{◌≡◌, ◌≤◌, ◌-◌, rules, length}
 use Rattle.theory.specs.Below.{Clear}
 use Rattle.shape.specs.Code.{again, mark_of}
-use Rattle.shape.proofs.Shape.Marks.{Marked}
+use Rattle.shape.proofs.MarkLaws.{Marked}
 use Rattle.shape.proofs.first_again.Given as goal
 
 abbrev pub invariant-loop-i : goal.invariant-loop-i

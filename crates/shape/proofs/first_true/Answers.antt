@@ -1,6 +1,6 @@
 -- `shape::first_true` meets its contract: at each return the tests before it failed.
 use Rattle.std.proofs.Common.{rules}
-use Rattle.shape.proofs.Shape.Laws.{first_true}
+use Rattle.shape.proofs.ShapeLaws.{first_true}
 use Rattle.shape.proofs.first_true.Goals as goal
 
 pub returns-then-a : goal.returns-then-a

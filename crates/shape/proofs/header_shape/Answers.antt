@@ -2,7 +2,7 @@
 use Rattle.std.proofs.Common.{rules}
 use Rattle.theory.proofs.Judge.Laws.{judged, only_hit, only_pass}
 use Rattle.shape.specs.Shape.{header_shape}
-use Rattle.shape.proofs.Shape.Laws.{tested_shape}
+use Rattle.shape.proofs.ShapeLaws.{tested_shape}
 use Rattle.shape.proofs.header_shape.Goals as goal
 
 pub returns-then-length_fault : goal.returns-then-length_fault

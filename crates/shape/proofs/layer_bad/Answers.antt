@@ -1,6 +1,6 @@
 -- `shape::layer_bad` meets its contract: the search finds a weight just where there is one.
 use Rattle.std.proofs.Common.{rules}
-use Rattle.shape.proofs.Shape.Laws.{layer_found}
+use Rattle.shape.proofs.ShapeLaws.{layer_found}
 use Rattle.shape.proofs.layer_bad.Goals as goal
 
 pub returns : goal.returns

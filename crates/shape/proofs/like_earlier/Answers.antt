@@ -1,7 +1,7 @@
 -- `shape::like_earlier` meets its contract: the rule is marked, and no rule below `e` is like it.
 use Rattle.std.proofs.Common.{◌-◌, rules}
 use Rattle.theory.proofs.Below.Scan.{scan}
-use Rattle.shape.proofs.Shape.Marks.{not_searched, like_found, like_none}
+use Rattle.shape.proofs.MarkLaws.{not_searched, like_found, like_none}
 use Rattle.shape.proofs.like_earlier.Goals as goal
 
 pub returns-then-not-marked : goal.returns-then-not-marked

@@ -1,6 +1,6 @@
 -- `shape::misplaced` meets its contract: an offset before the start is no end; past it, what lies between is the size.
 use Rattle.std.proofs.Common.{rules}
-use Rattle.shape.proofs.Shape.Laws.{before_start, past_start}
+use Rattle.shape.proofs.ShapeLaws.{before_start, past_start}
 use Rattle.shape.proofs.misplaced.Goals as goal
 
 pub returns-then-at-start : goal.returns-then-at-start

@@ -1,6 +1,6 @@
 -- `shape::repeat_fault` meets its contract: at most two searches, of which the last tells.
 use Rattle.std.proofs.Common.{rules}
-use Rattle.shape.proofs.Shape.Marks.{search_ends, search_follows}
+use Rattle.shape.proofs.MarkLaws.{search_ends, search_follows}
 use Rattle.shape.proofs.repeat_fault.Goals as goal
 
 pub loop-whole-init : goal.loop-whole-init

@@ -1,5 +1,5 @@
 -- `shape::state_fault` meets its contract: each return is one case of the test.
-use Rattle.shape.proofs.Shape.Laws.{first-bad_record, first-beyond, first_no_input}
+use Rattle.shape.proofs.ShapeLaws.{first-bad_record, first-beyond, first_no_input}
 use Rattle.std.proofs.Common.{rules}
 use Rattle.shape.proofs.state_fault.Goals as goal
 

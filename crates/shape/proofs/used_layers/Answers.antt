@@ -1,6 +1,6 @@
 -- `shape::used_layers` meets its contract: the layers of the rules below `r` are in the set.
 use Rattle.std.proofs.Common.{rules, ◌-◌}
-use Rattle.shape.proofs.Shape.Marks.{used_none, used_more, used_done}
+use Rattle.shape.proofs.MarkLaws.{used_none, used_more, used_done}
 use Rattle.shape.proofs.used_layers.Goals as goal
 
 pub loop-r-init : goal.loop-r-init

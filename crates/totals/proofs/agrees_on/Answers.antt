@@ -1,5 +1,5 @@
 -- `totals::agrees_on` meets its contract, by the case of the verdict.
-use Rattle.totals.proofs.Code.Laws.{verdict_hit, verdict_miss}
+use Rattle.totals.proofs.CodeLaws.{verdict_hit, verdict_miss}
 use Rattle.std.proofs.Common.{rules}
 use Rattle.totals.proofs.agrees_on.Goals as goal
 

@@ -1,5 +1,5 @@
 -- `totals::full_sheet` meets its contract: the counts of as many states are lent, in three buffers.
-use Rattle.totals.proofs.Totals.Laws.{part_long, sheet_full}
+use Rattle.totals.proofs.TotalsLaws.{part_long, sheet_full}
 use Rattle.std.proofs.Common.{rules}
 use Rattle.format.specs.Format.{protocol_in}
 use Rattle.totals.proofs.full_sheet.Goals as goal

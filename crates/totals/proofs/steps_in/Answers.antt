@@ -1,5 +1,5 @@
 -- `totals::steps_in` meets its contract, by the case of the run.
-use Rattle.totals.proofs.Code.Laws.{steps_ran, steps_refused}
+use Rattle.totals.proofs.CodeLaws.{steps_ran, steps_refused}
 use Rattle.std.proofs.Common.{rules}
 use Rattle.totals.proofs.steps_in.Goals as goal
 

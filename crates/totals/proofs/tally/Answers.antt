@@ -1,5 +1,5 @@
 -- `totals::tally` meets its contract: a refusal of the check is passed back.
-use Rattle.totals.proofs.Totals.Laws.{runs_accepted, sheet_accepted, sheet_refused}
+use Rattle.totals.proofs.TotalsLaws.{runs_accepted, sheet_accepted, sheet_refused}
 use Rattle.std.proofs.Common.{rules}
 use Rattle.totals.proofs.tally.Goals as goal
 

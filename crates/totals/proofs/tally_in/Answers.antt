@@ -1,5 +1,5 @@
 -- `totals::tally_in` meets its contract: test 34, and then the totals.
-use Rattle.totals.proofs.Totals.Laws.{code_refused, code_full, code-allowed}
+use Rattle.totals.proofs.TotalsLaws.{code_refused, code_full, code-allowed}
 use Rattle.std.proofs.Common.{rules}
 use Rattle.totals.proofs.tally_in.Goals as goal
 

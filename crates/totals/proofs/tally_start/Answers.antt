@@ -1,6 +1,6 @@
 -- `totals::tally_start` meets its contract: the start is copied, run and counted, and kept where it needs the greatest step total.
 use Rattle.std.proofs.Common.{◌∙◌, rules}
-use Rattle.totals.proofs.Code.Tally.{group_same, counted_is, first-new, first_old}
+use Rattle.totals.proofs.TallyLaws.{group_same, counted_is, first-new, first_old}
 use Rattle.totals.proofs.tally_start.Goals as goal
 use Rattle.totals.proofs.tally_start.Goals.{then-needs_most, else-needs_most}
 

@@ -1,6 +1,6 @@
 -- `totals::tally_starts` meets its contract: the totals are those of the starts counted so far.
 use Rattle.std.proofs.Common.{◌∙◌, ◌-◌, rules}
-use Rattle.totals.proofs.Code.Tally.{has_input, tallying_none, tallying_group, tallying_room, tallying_more, tallying}
+use Rattle.totals.proofs.TallyLaws.{has_input, tallying_none, tallying_group, tallying_room, tallying_more, tallying}
 use Rattle.totals.proofs.tally_starts.Goals as goal
 
 pub first_start-requires : goal.first_start-requires

@@ -1,7 +1,7 @@
 -- `totals::with_start` meets its contract: each total is that of one start more.
 use Rattle.std.proofs.Common.{true, false, arith, rules}
 use Rattle.totals.specs.Code.{agrees_on}
-use Rattle.totals.proofs.Code.Laws.{bit-most, with_start_lem}
+use Rattle.totals.proofs.CodeLaws.{bit-most, with_start_lem}
 use Rattle.totals.proofs.with_start.Goals as goal
 
 pub overflow_add-result-2 : goal.overflow_add-result-2

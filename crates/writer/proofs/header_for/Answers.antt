@@ -1,6 +1,6 @@
 -- `writer::header_for` meets its contract: within the limits all products and sums fit 16 bits.
 use Rattle.std.proofs.Common.{arith}
-use Rattle.writer.proofs.Write.Laws.{length_most, layers_most, leaves_most}
+use Rattle.writer.proofs.WriteLaws.{length_most, layers_most, leaves_most}
 use Rattle.writer.proofs.header_for.Goals as goal
 
 pub overflow_cast-rules : goal.overflow_cast-rules

@@ -1,5 +1,5 @@
 -- `writer::put_docket` meets its contract: each part is put where the one before ends.
-use Rattle.writer.proofs.Code.Laws.{docket_put}
+use Rattle.writer.proofs.CodeLaws.{docket_put}
 use Rattle.writer.proofs.put_docket.Goals as goal
 
 pub returns : goal.returns

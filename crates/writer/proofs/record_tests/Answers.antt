@@ -1,7 +1,7 @@
 -- `writer::record_tests` meets its contract: each branch follows the judgement's.
 use Rattle.std.proofs.Common.{rules}
 use Rattle.theory.proofs.Judge.Laws.{judged}
-use Rattle.writer.proofs.Code.Laws.{records_then, records_else}
+use Rattle.writer.proofs.CodeLaws.{records_then, records_else}
 use Rattle.writer.proofs.record_tests.Goals as goal
 
 pub returns-in_default : goal.returns-in_default

@@ -1,7 +1,7 @@
 -- `writer::write` meets its contract: by the version and by what the tests found; a docket that passes them has room.
 use Rattle.std.proofs.Common.{arith, rules}
 use Rattle.format.specs.Format.{sections}
-use Rattle.writer.proofs.Code.Laws.{answers, version_small, sizes_self, fits_limits, fits_header, has_room}
+use Rattle.writer.proofs.CodeLaws.{answers, version_small, sizes_self, fits_limits, fits_header, has_room}
 use Rattle.writer.proofs.write.Goals as goal
 
 pub returns-then-version_fault : goal.returns-then-version_fault

@@ -1,6 +1,6 @@
 -- `writer::write_tests` meets its contract: each branch follows the judgement's; counts within their limits were not cut.
 use Rattle.std.proofs.Common.{refl, rules}
-use Rattle.writer.proofs.Code.Laws.{counts-within, length_refused, count_refused, records_refused, room_refused, write_passed}
+use Rattle.writer.proofs.CodeLaws.{counts-within, length_refused, count_refused, records_refused, room_refused, write_passed}
 use Rattle.writer.proofs.write_tests.Goals as goal
 
 pub returns-then-place-lt5 : goal.returns-then-place-lt5

@@ -32,7 +32,7 @@ use Rattle.machine.specs.declared.Verdict.{Verdict}
 use Rattle.starts.specs.Code.{AtLeastFixed}
 use Rattle.totals.specs.Totals.{is_agreed, steps_to_rest, rests_on, resting_on, steps_at, totals_of, first_most, Allowed}
 use Rattle.totals.specs.Code.{Runs, Group, agrees_on, Room, added, with_start, needs_most, counted, Tallying}
-use Rattle.totals.proofs.Code.Laws.{bit-most, group_admitted}
+use Rattle.totals.proofs.CodeLaws.{bit-most, group_admitted}
 use Rattle.totals.specs.declared.Totals.{Totals}
 
 -- ---- One start

@@ -17,9 +17,9 @@ use Rattle.format.specs.Format.{state_width, Sections, sections}
 use Rattle.format.specs.declared.Sizes.{Sizes}
 use Rattle.format.specs.declared.Header.{Header}
 use Rattle.shape.specs.Shape.{refusal, nth, wrong_version, count_faults, count_test, section_tests}
-use Rattle.shape.proofs.Shape.Laws.{five_of_six, tested_passes}
+use Rattle.shape.proofs.ShapeLaws.{five_of_six, tested_passes}
 use Rattle.shape.specs.Sound.{Limits}
-use Rattle.shape.proofs.Sound.Laws.{version_passes, limits}
+use Rattle.shape.proofs.SoundLaws.{version_passes, limits}
 use Rattle.shape.specs.Code.{failed, tested_of}
 use Rattle.shape.specs.declared.Refusal.{Refusal}
 use Rattle.shape.specs.declared.Tested.{Tested}
@@ -27,7 +27,7 @@ use Rattle.shape.specs.declared.Tested.TheVariants.{Passed, Failed}
 use Rattle.leaf.specs.Leaf.{leaf_test}
 use Rattle.writer.specs.Write.{lengths_of, not_whole, records, states_for, length_faults, sizes_for, sizes_in, offsets_for, header_for, header_bytes, docket_of}
 use Rattle.writer.specs.Write.{length_test, record_tests, room_test, part_tests, write_of, output_of, written}
-use Rattle.writer.proofs.Write.Laws.{whole_records, total-length, docket_length, room_passes}
+use Rattle.writer.proofs.WriteLaws.{whole_records, total-length, docket_length, room_passes}
 use Rattle.writer.specs.Code.{cut, cut_sizes, records_tested, parts_tested, behind, as_written, replaced}
 use Rattle.writer.specs.declared.Lengths.{Lengths}
 use Rattle.writer.specs.declared.Written.TheVariants.{Total, Refused}

@@ -16,12 +16,12 @@ use Rattle.format.specs.declared.Header.{Header}
 use Rattle.format.specs.declared.Offsets.{Offsets}
 use Rattle.shape.specs.Shape.{nth, count_faults, section_tests}
 use Rattle.shape.specs.Sound.{IsVersion, Limits, Laid, SoundSections, SoundShape}
-use Rattle.shape.proofs.Sound.Laws.{sound_sections, sound_passes, sound_lengths}
+use Rattle.shape.proofs.SoundLaws.{sound_sections, sound_passes, sound_lengths}
 use Rattle.shape.specs.Code.{Lengths}
 use Rattle.leaf.specs.Leaf.{bad_leaf, leaf_test}
 use Rattle.writer.specs.Write.{records, sizes_in, WholeRecords, AreBytes, offsets_for, header_for, put16, header_bytes, docket_of}
 use Rattle.writer.specs.Write.{record_tests, room_test, write_tests}
-use Rattle.writer.proofs.Write.Laws.{whole_clear, total-length, total_most}
+use Rattle.writer.proofs.WriteLaws.{whole_clear, total-length, total_most}
 
 -- ---- Reading what is written
 

@@ -24,7 +24,7 @@ use Rattle.shape.specs.Shape.{bad_state, bad_rule, repeats, out_of_order, bad_la
 use Rattle.shape.specs.declared.Refusal.{Refusal}
 use Rattle.shape.specs.declared.Shape.{Shape}
 use Rattle.shape.specs.declared.Shape.TheVariants.{Sound, Refused}
-use Rattle.shape.proofs.Shape.Marks.{pair_same}
+use Rattle.shape.proofs.MarkLaws.{pair_same}
 use Rattle.shape.specs.Sound.{IsVersion, Limits, Laid, InOrder, SoundSections, SoundShape}
 use Rattle.shape.specs.Code.{Lengths, SoundRules}
 

@@ -19,10 +19,10 @@ use Rattle.theory.specs.Machine.{run, Reply, stepped, ran, refused, reply, count
 use Rattle.format.specs.Format.{header_of, protocol_in, layers_in}
 use Rattle.format.specs.declared.Header.{Header}
 use Rattle.shape.specs.Shape.{refusal, shape_of, by_shape}
-use Rattle.shape.proofs.Shape.Laws.{sound_else, tested_passes}
+use Rattle.shape.proofs.ShapeLaws.{sound_else, tested_passes}
 use Rattle.shape.specs.Code.{failed, refusal_of}
 use Rattle.shape.specs.Sound.{SoundShape}
-use Rattle.shape.proofs.Sound.Laws.{sound_at}
+use Rattle.shape.proofs.SoundLaws.{sound_at}
 use Rattle.shape.specs.declared.Refusal.{Refusal}
 use Rattle.shape.specs.declared.Tested.{Tested}
 use Rattle.shape.specs.declared.Tested.TheVariants.{Passed, Failed}
@@ -34,7 +34,7 @@ use Rattle.machine.specs.Code.Laws.{reply_sound, counts_sound}
 use Rattle.machine.specs.declared.Ran.{Ran}
 use Rattle.machine.specs.declared.Ran.TheVariants as runs
 use Rattle.page.specs.Page.{part_at, each_part, result_of, page_tests, page_of, by_groups, unless_refused, counts_after_page, results_after_page}
-use Rattle.page.proofs.Page.Laws.{part_end, part_within, each-length}
+use Rattle.page.proofs.PageLaws.{part_end, part_within, each-length}
 use Rattle.page.specs.Code.{page_tested, as_paged, run_counts, run_result, with_part, up_to, RunUpTo}
 use Rattle.page.specs.declared.Paged.TheVariants.{Done, Refused}
 

@@ -34,16 +34,16 @@ number32 v = cond (ltb v 2147483648) (pos v) (pos v -ℤ pos 4294967296)
 
 module _ (b y : List ℕ) where
   -- The docket's protocol and its number of states; the sheet's header, and the sheet that the bytes stand for.
-  abbrev P : Protocol
+  abbrev pub P : Protocol
   P = protocol_in b (header_of b)
 
   abbrev S : ℕ
   S = P.states
 
-  abbrev K : SheetHeader
+  abbrev pub K : SheetHeader
   K = sheet_header y
 
-  abbrev Z : Sheet
+  abbrev pub Z : Sheet
   Z = sheet_in (header_of b).sizes y K
 
   -- ---- The bytes of a sheet, as document 02 has them

@@ -1,6 +1,7 @@
 // What C calls. A slice is a pointer and a length; include/docket.h has the prototypes. No function has a requires: C
 // cannot meet one. A refused call neither reads nor writes behind its answer pointers.
 #![tactic(auto)]
+
 ghost use Rattle.std.specs.Prelude.{◌≡◌, length};
 ghost use Rattle.theory.specs.Machine.{step as stepCall, run as runCall};
 ghost use Rattle.format.specs.Format.{sections};

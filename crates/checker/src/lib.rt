@@ -1,5 +1,6 @@
 // The check of a docket: tests 1 to 13 in order, with 14 between 7 and 8. Any bytes may be given.
 #![tactic(auto)]
+
 ghost use Rattle.std.specs.Prelude.{◌≡◌};
 ghost use Rattle.format.specs.Format.{sections, sections_of};
 ghost use Rattle.shape.specs.Sound.{SoundShape};

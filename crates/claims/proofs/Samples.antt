@@ -1,5 +1,5 @@
 -- The samples P1 to P12 of document 01, and samples of document 02, by computation on the bytes.
-use Rattle.std.specs.Prelude.{◌≡◌, refl, true, List, [], ◌∷◌, ◌++◌, ℕ, ◌-◌, ◌≤◌, ltb, length, get_or, drop, replicate}
+use Rattle.std.specs.Prelude.{◌≡◌, refl, true, List, [], ◌∷◌, ◌++◌, ℕ, ◌≤◌, ltb, length, get_or, drop, replicate}
 use Rattle.std.proofs.Common.{subst, arith}
 use Rattle.theory.specs.Below.{all_below}
 use Rattle.theory.specs.Protocol.{Start}

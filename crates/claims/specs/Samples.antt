@@ -1,7 +1,5 @@
 -- The samples P1 to P12 of document 01, and samples of document 02. They hold: Samples in proofs/.
 use Rattle.std.specs.Prelude.{◌≡◌, Bool, true, false, List, [], ◌∷◌, ◌++◌, ℕ, ◌-◌, ◌≤◌, length, take, set, replicate}
-use Rattle.theory.specs.Ladder.{spreads}
-use Rattle.theory.specs.Tree.{widest}
 use Rattle.theory.specs.Machine.{run, ran}
 use Rattle.shape.specs.Shape.{refusal}
 use Rattle.format.specs.Format.{header_of, Sections}

@@ -1,6 +1,7 @@
 // The numbers that C is handed: refusals, yes and no, the figures of an accepted docket, and what the checks, the start test, a
 // step and a page return.
 #![tactic(auto)]
+
 ghost use Rattle.std.specs.Prelude.{◌≡◌, [], ◌∷◌};
 ghost use Rattle.theory.specs.Bool.{bit};
 ghost use Rattle.machine.specs.Code.{reply_of_step};

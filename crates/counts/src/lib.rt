@@ -2,6 +2,7 @@
 // pairs of agents that could meet, rules that are enabled, fire, or are chosen. Where a contract speaks of the docket's
 // protocol the states section is lent; only for unfit states it is read.
 #![tactic(auto)]
+
 ghost use Rattle.std.specs.Prelude.{◌≡◌, [], ◌≤◌, get_or};
 ghost use Rattle.theory.specs.Bool.{member};
 ghost use Rattle.theory.specs.Below.{sum_below};

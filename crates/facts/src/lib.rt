@@ -2,6 +2,7 @@
 // outside its limits has no facts, and none can be marked there. No word is taken by an index that is computed, so that
 // the facts need not lie in memory.
 #![tactic(auto)]
+
 ghost use Rattle.std.specs.Prelude.{◌≡◌, ltb};
 ghost use Rattle.theory.specs.Bool.{member};
 ghost use Rattle.theory.specs.Facts.{extend, with_absent, with_present, with_at_most_one, with_unused};

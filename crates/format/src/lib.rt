@@ -1,6 +1,7 @@
 // The docket file: its header, its sections, and one reader for each field of each record.
 // Every function is total: past the end of a slice a byte reads as 0. Everywhere h is a header and z its sizes.
 #![tactic(auto)]
+
 ghost use Rattle.std.specs.Prelude.{◌≡◌, ◌+◌, ◌*◌, min, max, get_or};
 ghost use Rattle.theory.specs.Bool.{member};
 ghost use Rattle.bits.specs.Code.{among_of};

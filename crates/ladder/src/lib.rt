@@ -2,6 +2,7 @@
 // Handover wants the rules of a sound shape; the others take any bytes and any sizes.
 // The states are lent because the contracts speak of the docket's protocol; the tests do not read them.
 #![tactic(auto)]
+
 ghost use Rattle.std.specs.Prelude.{◌≡◌, not, ◌+◌};
 ghost use Rattle.theory.specs.Below.{first_below, sum_below};
 ghost use Rattle.theory.specs.Ladder.{lowers_at, handover_at, spread};

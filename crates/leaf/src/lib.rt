@@ -2,6 +2,7 @@
 // 10,000 added, so all numbers are unsigned. Every public function is total. rules_keep is lent the states section because its
 // contract speaks of the protocol.
 #![tactic(auto)]
+
 ghost use Rattle.std.specs.Prelude.{◌≡◌, ◌+◌, ◌<◌};
 ghost use Rattle.theory.specs.Below.{first_below};
 ghost use Rattle.format.specs.Code.{Value};

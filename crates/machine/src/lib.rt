@@ -4,6 +4,7 @@
 // A function that ends in _in is its call on a docket that is known to pass tests 1 to 8. Those of the start test, verdict, step and run
 // are public, for crates that make several calls on one docket.
 #![tactic(auto)]
+
 ghost use Rattle.std.specs.Prelude.{◌≡◌, true};
 ghost use Rattle.theory.specs.Protocol.{WellFormed};
 ghost use Rattle.theory.specs.Ladder.{OrderedPartition};

@@ -1,6 +1,7 @@
 // What a tree refutes, and what one node of it comes to: its fields, its ground and the facts of its children. A set of
 // states is a word of 64 bits. A function is lent the states section where its contract speaks of the protocol.
 #![tactic(auto)]
+
 ghost use Rattle.std.specs.Prelude.{◌≡◌, true, ◌&&◌, ◌||◌, [], ◌∷◌, ◌^◌, ◌≤◌, ◌<◌, eqb, ltb};
 ghost use Rattle.theory.specs.Bool.{member};
 ghost use Rattle.theory.specs.Facts.{with_absent, with_present};

@@ -2,6 +2,7 @@
 // numbers for each. Tests 1 to 8 are made once; then each group is run within its own part of the counts.
 // run_page has no requires: any bytes, counts, limit and results may be given, and a refusal changes nothing.
 #![tactic(auto)]
+
 ghost use Rattle.std.specs.Prelude.{◌≡◌, ◌+◌, ◌*◌, ◌/◌, ◌≤◌, length};
 ghost use Rattle.theory.specs.Bool.{bit};
 ghost use Rattle.shape.specs.Sound.{SoundShape};

@@ -1,6 +1,7 @@
 // Tests 1 to 8 of a docket, with 14 among them, which every call makes first. Any bytes may be given.
 // The limits are constants of the type Facts, as document 01's forms ask of depth and counts.
 #![tactic(auto)]
+
 ghost use Rattle.std.specs.Prelude.{◌≡◌, not, ◌||◌, ◌&&◌, [], ◌∷◌, ◌+◌, eqb, ltb, length};
 ghost use Rattle.theory.specs.Bool.{member};
 ghost use Rattle.theory.specs.Below.{any_below, first_below};

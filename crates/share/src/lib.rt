@@ -1,6 +1,7 @@
 // The share of one state in the rule by which a leaf closes: the leaf rule goes by sums, the remainder rule by remainders. A
 // weight is read with 10,000 added, so all numbers are unsigned. Every public function is total.
 #![tactic(auto)]
+
 ghost use Rattle.std.specs.Prelude.{◌≡◌, ◌+◌, ◌-◌, ◌*◌, ◌<◌};
 ghost use Rattle.theory.specs.Bool.{bit};
 ghost use Rattle.theory.specs.Remainder.{congruent};

@@ -1,6 +1,7 @@
 // The check of a docket with its claim sheet: the docket's whole check, test 15, and tests 12 and 13 of the sheet's two trees.
 // check_sheet has no requires: any bytes may be given.
 #![tactic(auto)]
+
 ghost use Rattle.std.specs.Prelude.{◌≡◌, ◌+◌, ◌≤◌};
 ghost use Rattle.theory.specs.Sheet.{sheet_answer, first_walk, second_walk};
 ghost use Rattle.format.specs.Format.{sections_of, protocol_of};

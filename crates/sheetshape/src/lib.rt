@@ -1,5 +1,6 @@
 // The bytes of a claim sheet: its header, its sections, and test 15. Every public function is total.
 #![tactic(auto)]
+
 ghost use Rattle.std.specs.Prelude.{◌≡◌};
 ghost use Rattle.theory.specs.Below.{first_below};
 ghost use Rattle.format.specs.Code.{Value};

@@ -1,6 +1,7 @@
 // The starts with n agents besides the fixed ones, one after the other in the document's order, in lent counts: the first, and
 // the next after a start. No list of them is kept.
 #![tactic(auto)]
+
 ghost use Rattle.std.specs.Prelude.{◌≡◌, true, cond, [], ◌≤◌, ◌<◌, length, ltb};
 ghost use Rattle.theory.specs.Below.Ends.{first_from, end_below, table};
 ghost use Rattle.theory.specs.Protocol.{HasInput};

@@ -1,6 +1,7 @@
 // Whether a leaf of a tree closes: a docket's, by the leaf rule or the remainder rule; or a claim sheet's, for a threshold on the
 // weighed sum of the start. A number of a sheet is read with 32,768 added, a weight with 10,000, so all numbers are unsigned.
 #![tactic(auto)]
+
 ghost use Rattle.std.specs.Prelude.{◌≡◌, ◌+◌, ◌*◌, ◌≤◌, ◌<◌};
 ghost use Rattle.theory.specs.Sheet.{sheet_closes};
 ghost use Rattle.format.specs.Bytes.{le16};

@@ -2,6 +2,7 @@
 // after the other, in one buffer of counts; each is copied and run in a second one.
 // tally has no requires: any bytes and any n may be given.
 #![tactic(auto)]
+
 ghost use Rattle.std.specs.Prelude.{◌≡◌, cond, max, length};
 ghost use Rattle.theory.specs.Bool.{bit};
 ghost use Rattle.theory.specs.Machine.{rest_of, meetings_of};

@@ -1,6 +1,7 @@
 // The walk of a tree in preorder, tests 12 and 13, and the width of its sets.
 // A function is lent a section where its contract speaks of the protocol.
 #![tactic(auto)]
+
 ghost use Rattle.std.specs.Prelude.{◌≡◌, ◌≤◌, ◌<◌};
 ghost use Rattle.theory.specs.Facts.{fresh};
 ghost use Rattle.theory.specs.Tree.{refused, disagreement, tree_at, tree_answer, widest as widestOf};

@@ -1,6 +1,6 @@
 -- Whole records, the length of the docket, room for it, and bytes. Assumes nothing.
 use Rattle.std.specs.Prelude.{◌≡◌, true, false, not, List, [], ◌∷◌, ◌++◌, ℕ, zero, suc, ◌+◌, ◌*◌, ◌/◌, ◌%◌, ◌≤◌, ◌<◌, ltb, eqb, length, get_or}
-use Rattle.std.proofs.Common.{ap, ◌∙◌, mul-le-mul, mul-le-mul_right, arith, ltb-true, eqb-true, ne_eqb, length-append}
+use Rattle.std.proofs.Common.{◌∙◌, mul-le-mul, mul-le-mul_right, arith, ltb-true, eqb-true, ne_eqb, length-append}
 use Rattle.std.proofs.Math.Logic.{by_cases}
 use Rattle.std.proofs.Math.Nat.{div-add-mod}
 use Rattle.std.proofs.Math.Decide.{dec_lt}

@@ -1,6 +1,7 @@
 // The writer: the bytes of the five sections are lent, and the docket is written to the beginning of a lent output. It makes
 // the tests that the check makes of the sections, but for the ladder and the tree. Any bytes may be given, of any length.
 #![tactic(auto)]
+
 ghost use Rattle.std.specs.Prelude.{◌≡◌, ◌++◌, ◌+◌, ◌*◌, ◌/◌, ◌%◌, ◌≤◌, length, drop};
 ghost use Rattle.theory.specs.Below.{first_below};
 ghost use Rattle.format.specs.Format.{state_width, sections};

@@ -9,7 +9,7 @@ use Rattle.theory.proofs.Below.Laws.{all_elim, all_intro}
 use Rattle.theory.specs.Judge.{Passes}
 use Rattle.theory.proofs.Judge.Laws.{passes-judge}
 use Rattle.theory.specs.Protocol.{Protocol}
-use Rattle.theory.specs.Ladder.{Layers, lowers_at, lowering, handover_at, handover, Laddered}
+use Rattle.theory.specs.Ladder.{Layers, lowers_at, handover_at, handover, Laddered}
 use Rattle.theory.proofs.Ladder.Handover.{handover_exact}
 use Rattle.theory.specs.Facts.{fresh}
 use Rattle.theory.specs.Tree.{Walked, next, refused, Tree, Assumption, tree_at, tree_answer}

@@ -1,5 +1,5 @@
 -- `counts::choose` meets its contract: the best of the rules below `r` is known.
-use Rattle.std.proofs.Common.{◌-◌, rules}
+use Rattle.std.proofs.Common.{◌-◌}
 use Rattle.format.specs.Format.{protocol_of, layers_of}
 use Rattle.counts.specs.Code.Laws.{Best}
 use Rattle.counts.proofs.choose.Given as goal

@@ -1,5 +1,5 @@
 -- `counts::occupied` meets its contract: the set has the occupied states below `i`.
-use Rattle.std.proofs.Common.{◌-◌, rules}
+use Rattle.std.proofs.Common.{rules}
 use Rattle.bits.specs.Code.Laws.{gathering}
 use Rattle.counts.proofs.occupied.Goals as goal
 

@@ -1,5 +1,5 @@
 -- `counts::total` meets its contract: the sum of the counts below i, which is small.
-use Rattle.std.proofs.Common.{◌-◌, rules}
+use Rattle.std.proofs.Common.{rules}
 use Rattle.theory.proofs.Below.Scan.{sum_none, sum_more, sum_done}
 use Rattle.counts.proofs.total.Goals as goal
 

@@ -1,5 +1,5 @@
 -- `counts::unfit_states` meets its contract: the set has the states below `i` that are against the start rule.
-use Rattle.std.proofs.Common.{◌-◌, rules}
+use Rattle.std.proofs.Common.{rules}
 use Rattle.bits.specs.Code.Laws.{gathering}
 use Rattle.counts.proofs.unfit_states.Goals as goal
 

@@ -1,5 +1,5 @@
 -- `format::flag_set` meets its contract: the set has the states below `i` with the flag.
-use Rattle.std.proofs.Common.{◌-◌, rules}
+use Rattle.std.proofs.Common.{rules}
 use Rattle.bits.specs.Code.Laws.{gathering}
 use Rattle.format.proofs.flag_set.Goals as goal
 

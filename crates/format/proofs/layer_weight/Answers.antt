@@ -1,5 +1,3 @@
-
-
 use Rattle.format.proofs.layer_weight.Goals as goal
 
 pub returns : goal.returns

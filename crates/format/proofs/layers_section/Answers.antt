@@ -1,5 +1,3 @@
-
-
 use Rattle.format.proofs.layers_section.Goals as goal
 
 pub returns : goal.returns

@@ -1,4 +1,3 @@
-
 use Rattle.std.proofs.Common.{rules}
 use Rattle.format.proofs.leaf_weight.Goals as goal
 

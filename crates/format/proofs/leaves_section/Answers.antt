@@ -1,5 +1,3 @@
-
-
 use Rattle.format.proofs.leaves_section.Goals as goal
 
 pub returns : goal.returns

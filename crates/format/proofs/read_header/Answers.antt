@@ -1,5 +1,3 @@
-
-
 use Rattle.format.proofs.read_header.Goals as goal
 
 pub returns : goal.returns

@@ -1,6 +1,6 @@
 -- `ladder::handover_fault` meets its contract: handover holds at each rule below `s`, each rule below `u` is covered for `s`,
 -- and no rule below `v` is fitting for `s` and `u`.
-use Rattle.std.proofs.Common.{not, ◌≤◌, ◌-◌, rules}
+use Rattle.std.proofs.Common.{not, ◌≤◌, ◌-◌}
 use Rattle.theory.specs.Below.{Clear}
 use Rattle.theory.specs.Ladder.{handover_at}
 use Rattle.format.specs.Format.{protocol_of, layers_of}

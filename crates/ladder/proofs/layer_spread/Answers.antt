@@ -1,5 +1,5 @@
 -- `ladder::layer_spread` meets its contract: `low` and `high` are the least and the greatest weight of the states below `s`.
-use Rattle.std.proofs.Common.{rules, ◌-◌}
+use Rattle.std.proofs.Common.{rules}
 use Rattle.ladder.specs.Code.Laws.{extremes, low_le_high, spread_is}
 use Rattle.ladder.proofs.layer_spread.Goals as goal
 

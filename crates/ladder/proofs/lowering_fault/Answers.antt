@@ -1,5 +1,5 @@
 -- `ladder::lowering_fault` meets its contract: lowering holds at each rule below `r`.
-use Rattle.std.proofs.Common.{rules, ◌-◌}
+use Rattle.std.proofs.Common.{rules}
 use Rattle.theory.proofs.Below.Scan.{scan}
 use Rattle.ladder.proofs.lowering_fault.Goals as goal
 

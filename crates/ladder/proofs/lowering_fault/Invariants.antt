@@ -1,5 +1,5 @@
 -- `ladder::lowering_fault` meets its contract: lowering holds at each rule below `r`.
-use Rattle.std.proofs.Common.{rules, not, ◌≤◌, ◌-◌}
+use Rattle.std.proofs.Common.{not, ◌≤◌, ◌-◌}
 use Rattle.theory.specs.Below.{Clear}
 use Rattle.theory.specs.Ladder.{lowers_at}
 use Rattle.format.specs.Format.{layer_weight, protocol_of, layers_of}

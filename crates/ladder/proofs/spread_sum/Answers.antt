@@ -1,5 +1,5 @@
 -- `ladder::spread_sum` meets its contract: `sum` is the sum of the spreads of the layers below `l`, each a 32-bit number.
-use Rattle.std.proofs.Common.{◌-◌, rules}
+use Rattle.std.proofs.Common.{rules}
 use Rattle.theory.proofs.Below.Scan.{sum_none, sum_more, sum_done}
 use Rattle.ladder.proofs.spread_sum.Goals as goal
 

@@ -1,5 +1,5 @@
 -- No state below s has a weight outside the limits.
-use Rattle.std.proofs.Common.{◌-◌, rules}
+use Rattle.std.proofs.Common.{rules}
 use Rattle.theory.proofs.Below.Scan.{scan}
 use Rattle.leaf.specs.Leaf.Laws.{limits}
 use Rattle.leaf.proofs.first_fault.Goals as goal

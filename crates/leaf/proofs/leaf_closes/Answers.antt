@@ -1,5 +1,5 @@
 -- The weights of the states below s are allowed, and gains and losses are the sums of theirs.
-use Rattle.std.proofs.Common.{rules, ◌-◌}
+use Rattle.std.proofs.Common.{rules}
 use Rattle.leaf.specs.Code.Laws.{adding, closings}
 use Rattle.leaf.proofs.leaf_closes.Goals as goal
 

@@ -1,5 +1,5 @@
 -- No leaf below l is bad.
-use Rattle.std.proofs.Common.{◌-◌, rules}
+use Rattle.std.proofs.Common.{rules}
 use Rattle.theory.proofs.Below.Scan.{scan}
 use Rattle.leaf.proofs.leaf_fault.Goals as goal
 

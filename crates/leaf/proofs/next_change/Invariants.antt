@@ -1,5 +1,5 @@
 -- The rules from r on and below c are unused or do not change the weight.
-use Rattle.std.proofs.Common.{rules, ◌-◌}
+use Rattle.std.proofs.Common.{◌-◌}
 use Rattle.leaf.specs.Code.Laws.{Unchanged}
 use Rattle.leaf.proofs.next_change.Given as goal
 

@@ -1,5 +1,4 @@
 -- The elements of the section are bytes.
-use Rattle.std.proofs.Common.{rules}
 use Rattle.leaf.specs.Code.Laws.{rule_bytes}
 use Rattle.leaf.proofs.rule_at.Goals as goal
 

@@ -1,5 +1,5 @@
 -- The rules below r are unused or keep the weight.
-use Rattle.std.proofs.Common.{rules, ◌-◌}
+use Rattle.std.proofs.Common.{rules}
 use Rattle.leaf.specs.Code.Laws.{keeping}
 use Rattle.leaf.proofs.rules_keep.Goals as goal
 

@@ -1,5 +1,5 @@
 -- The rules below r are unused or keep the weight.
-use Rattle.std.proofs.Common.{rules, ◌-◌}
+use Rattle.std.proofs.Common.{◌-◌}
 use Rattle.bits.specs.Code.{in_words}
 use Rattle.leaf.specs.Code.Laws.{KeptBelow}
 use Rattle.leaf.proofs.rules_keep.Given as goal

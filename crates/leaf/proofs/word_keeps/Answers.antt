@@ -1,5 +1,5 @@
 -- The rules from r on and below that of x are unused or keep the weight.
-use Rattle.std.proofs.Common.{rules, ◌-◌}
+use Rattle.std.proofs.Common.{rules}
 use Rattle.leaf.specs.Code.Laws.{changing}
 use Rattle.leaf.proofs.word_keeps.Goals as goal
 

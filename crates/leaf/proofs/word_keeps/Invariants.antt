@@ -1,5 +1,5 @@
 -- The rules from r on and below that of x are unused or keep the weight.
-use Rattle.std.proofs.Common.{rules, ◌-◌}
+use Rattle.std.proofs.Common.{◌-◌}
 use Rattle.leaf.specs.Code.Laws.{Changed}
 use Rattle.leaf.proofs.word_keeps.Given as goal
 

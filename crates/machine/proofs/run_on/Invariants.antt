@@ -1,5 +1,5 @@
 -- `machine::run_on` meets its contract: what is still to run from where it stands completes the run.
-use Rattle.std.proofs.Common.{◌≡◌, ◌-◌, rules}
+use Rattle.std.proofs.Common.{◌≡◌, ◌-◌}
 use Rattle.theory.specs.Machine.{chosen}
 use Rattle.format.specs.Format.{protocol_of, layers_of}
 use Rattle.machine.specs.Code.Runs.{Running}

@@ -1,5 +1,5 @@
 -- The rules below 64 word are unused or preserve the set, just where the test says so, and those that touch it are gathered.
-use Rattle.std.proofs.Common.{◌-◌, rules}
+use Rattle.std.proofs.Common.{rules}
 use Rattle.node.specs.Code.Laws.{preserved, preserved_more, touched, touching_more}
 use Rattle.node.proofs.test_set.Goals as goal
 

@@ -1,5 +1,5 @@
 -- The rules below 64 word are unused or preserve the set, just where the test says so, and those that touch it are gathered.
-use Rattle.std.proofs.Common.{◌≡◌, ◌≤◌, ◌-◌, length, rules}
+use Rattle.std.proofs.Common.{◌≡◌, ◌≤◌, ◌-◌, length}
 use Rattle.theory.specs.Bool.{member}
 use Rattle.theory.specs.Tree.{touches}
 use Rattle.bits.specs.Code.{in_words, first_words}

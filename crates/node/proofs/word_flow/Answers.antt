@@ -1,5 +1,5 @@
 -- Of the i rules from 64 word on, those that take from the set and those that put into it are gathered.
-use Rattle.std.proofs.Common.{◌-◌, rules}
+use Rattle.std.proofs.Common.{rules}
 use Rattle.node.specs.Code.Laws.{rule_states, flows, flow_more}
 use Rattle.node.proofs.word_flow.Goals as goal
 

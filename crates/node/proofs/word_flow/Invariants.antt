@@ -1,5 +1,5 @@
 -- Of the i rules from 64 word on, those that take from the set and those that put into it are gathered.
-use Rattle.std.proofs.Common.{◌-◌, ◌≤◌, rules}
+use Rattle.std.proofs.Common.{◌-◌, ◌≤◌}
 use Rattle.theory.specs.Bool.{member}
 use Rattle.format.specs.Format.{protocol_of}
 use Rattle.node.specs.Code.Laws.{FlowBelow}

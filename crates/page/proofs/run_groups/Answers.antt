@@ -1,6 +1,6 @@
 -- `page::run_groups` meets its contract: the parts of the groups that have been run hold what is made of them, the others are as
 -- they were.
-use Rattle.std.proofs.Common.{◌-◌, rules}
+use Rattle.std.proofs.Common.{rules}
 use Rattle.page.proofs.CodeLaws.{run_all, running_groups}
 use Rattle.page.proofs.run_groups.Goals as goal
 

@@ -1,5 +1,5 @@
 -- `shape::first` meets its contract: the test holds of no record below `i`.
-use Rattle.std.proofs.Common.{◌-◌, rules}
+use Rattle.std.proofs.Common.{rules}
 use Rattle.theory.proofs.Below.Scan.{scan}
 use Rattle.shape.proofs.first.Goals as goal
 

@@ -1,5 +1,5 @@
 -- `shape::first_again` meets its contract: no rule below `i` is like an earlier one, and all of them are marked.
-use Rattle.std.proofs.Common.{◌-◌, rules}
+use Rattle.std.proofs.Common.{rules}
 use Rattle.theory.proofs.Below.Scan.{scan}
 use Rattle.shape.proofs.MarkLaws.{marked_none, marked_more, mark_tells, length-kept}
 use Rattle.shape.proofs.first_again.Goals as goal

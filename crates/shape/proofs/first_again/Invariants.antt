@@ -1,5 +1,5 @@
 -- `shape::first_again` meets its contract: no rule below `i` is like an earlier one, and all of them are marked.
-use Rattle.std.proofs.Common.{◌≡◌, ◌≤◌, ◌-◌, rules, length}
+use Rattle.std.proofs.Common.{◌≡◌, ◌≤◌, ◌-◌, length}
 use Rattle.theory.specs.Below.{Clear}
 use Rattle.shape.specs.Code.{again, mark_of}
 use Rattle.shape.proofs.MarkLaws.{Marked}

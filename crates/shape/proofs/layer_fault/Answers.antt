@@ -1,5 +1,5 @@
 -- `shape::layer_fault` meets its contract: no layer below `i` is at fault.
-use Rattle.std.proofs.Common.{rules, ◌-◌}
+use Rattle.std.proofs.Common.{rules}
 use Rattle.theory.proofs.Below.Scan.{scan}
 use Rattle.shape.proofs.layer_fault.Goals as goal
 

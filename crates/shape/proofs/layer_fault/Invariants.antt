@@ -1,5 +1,5 @@
 -- `shape::layer_fault` meets its contract: no layer below `i` is at fault.
-use Rattle.std.proofs.Common.{rules, ◌≤◌, ◌-◌}
+use Rattle.std.proofs.Common.{◌≤◌, ◌-◌}
 use Rattle.theory.specs.Below.{Clear}
 use Rattle.shape.specs.Shape.{bad_layer}
 use Rattle.shape.proofs.layer_fault.Given as goal

@@ -1,5 +1,5 @@
 -- `shape::like_earlier` meets its contract: the rule is marked, and no rule below `e` is like it.
-use Rattle.std.proofs.Common.{◌-◌, rules}
+use Rattle.std.proofs.Common.{rules}
 use Rattle.theory.proofs.Below.Scan.{scan}
 use Rattle.shape.proofs.MarkLaws.{not_searched, like_found, like_none}
 use Rattle.shape.proofs.like_earlier.Goals as goal

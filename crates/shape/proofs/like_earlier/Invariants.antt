@@ -1,5 +1,5 @@
 -- `shape::like_earlier` meets its contract: the rule is marked, and no rule below `e` is like it.
-use Rattle.std.proofs.Common.{◌≡◌, false, not, ◌≤◌, ◌-◌, rules}
+use Rattle.std.proofs.Common.{◌≡◌, false, not, ◌≤◌, ◌-◌}
 use Rattle.theory.specs.Below.{Clear}
 use Rattle.format.specs.Format.{rule_of}
 use Rattle.shape.specs.Code.{alike}

@@ -1,5 +1,5 @@
 -- `shape::order_fault` meets its contract: no rule below `i` is out of order, and the rule before `i` is held.
-use Rattle.std.proofs.Common.{◌-◌, rules}
+use Rattle.std.proofs.Common.{◌-◌}
 use Rattle.shape.proofs.ShapeLaws.{InOrderTo}
 use Rattle.shape.proofs.order_fault.Given as goal
 

@@ -1,5 +1,5 @@
 -- `shape::used_layers` meets its contract: the layers of the rules below `r` are in the set.
-use Rattle.std.proofs.Common.{rules, ◌-◌}
+use Rattle.std.proofs.Common.{rules}
 use Rattle.shape.proofs.MarkLaws.{used_none, used_more, used_done}
 use Rattle.shape.proofs.used_layers.Goals as goal
 

@@ -1,5 +1,5 @@
 -- `shape::used_layers` meets its contract: the layers of the rules below `r` are in the set.
-use Rattle.std.proofs.Common.{rules, ◌≤◌, ◌-◌, ◌≡◌}
+use Rattle.std.proofs.Common.{◌≤◌, ◌-◌, ◌≡◌}
 use Rattle.theory.specs.Bool.{member}
 use Rattle.shape.specs.Code.{used_below}
 use Rattle.shape.proofs.used_layers.Given as goal

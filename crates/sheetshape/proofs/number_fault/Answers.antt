@@ -1,5 +1,5 @@
 -- No state below s has a bad number.
-use Rattle.std.proofs.Common.{rules, ◌-◌}
+use Rattle.std.proofs.Common.{rules}
 use Rattle.theory.proofs.Below.Scan.{scan}
 use Rattle.sheetshape.proofs.number_fault.Goals as goal
 

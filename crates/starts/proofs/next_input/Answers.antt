@@ -1,5 +1,5 @@
 -- `starts::next_input` meets its contract: no state from `from` on, and below s, is an input.
-use Rattle.std.proofs.Common.{◌-◌, rules}
+use Rattle.std.proofs.Common.{rules}
 use Rattle.starts.specs.Code.Laws.{scanning}
 use Rattle.starts.proofs.next_input.Goals as goal
 

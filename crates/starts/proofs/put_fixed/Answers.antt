@@ -1,5 +1,5 @@
 -- `starts::put_fixed` meets its contract: the states below s hold their fixed agents.
-use Rattle.std.proofs.Common.{◌-◌, rules}
+use Rattle.std.proofs.Common.{rules}
 use Rattle.starts.specs.Code.Laws.{filling}
 use Rattle.starts.proofs.put_fixed.Goals as goal
 

@@ -7,12 +7,11 @@ use mathlib.Core.List.{List, [], ◌∷◌}
 use Rattle.std.proofs.Math.Logic.{by_cases}
 use Rattle.std.proofs.Math.Decide.{dec_lt, ℕ_discrete}
 use Rattle.std.proofs.Math.Dec.{ltb}
-use borrow.Author.Tests.{ltb-true, eqb-true, eqb-false, eq-eqb, ne_eqb}
+use borrow.Author.Tests.{ltb-true, eqb-true, eqb-false, ne_eqb}
 use Rattle.theory.specs.Bool.{bit}
-use Rattle.theory.proofs.Bool.Laws.{by_test, not_both, is_false, and_elim}
-use Rattle.theory.specs.Weigh.{weigh}
+use Rattle.theory.proofs.Bool.Laws.{by_test, is_false, and_elim}
 use Rattle.theory.proofs.Weigh.Laws.{weigh_add, weigh_mono, weigh_at, weigh-some, weigh_one}
-use Rattle.theory.specs.Protocol.{Protocol, count, size, enabled, Shows, fires, tried, after}
+use Rattle.theory.specs.Protocol.{Protocol, count, size, enabled, Shows, tried, after}
 use Rattle.theory.proofs.Protocol.Lists.{fires_rule, tried_not}
 
 -- The agents of one state, and of two, are no more than all.

@@ -1,5 +1,5 @@
 -- What is proved of which protocols. Statements only; Proved.antt proves them.
-use Rattle.std.specs.Prelude.{◌≡◌, true, false, cond, List, ◌↔◌, ◌⊎◌, ℕ, ◌+◌, ◌-◌, ◌*◌, ◌≤◌, ◌<◌, length, ◌≤ℤ◌}
+use Rattle.std.specs.Prelude.{◌≡◌, true, false, cond, List, ◌↔◌, ◌⊎◌, ℕ, ◌+◌, ◌*◌, ◌≤◌, ◌<◌, length, ◌≤ℤ◌}
 use Rattle.theory.specs.Protocol.{Protocol, WellFormed, size, terminal, Shows, Start, start_test, after, meetings}
 use Rattle.theory.specs.Ladder.{Layers, OrderedPartition, handover_at, handover, Broken, layered, Alone, Laddered, spread}
 use Rattle.theory.specs.Facts.{Facts}

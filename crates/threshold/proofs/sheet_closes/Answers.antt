@@ -1,5 +1,5 @@
 -- The weights of the states below s are allowed, and gains and losses are the sums of theirs.
-use Rattle.std.proofs.Common.{rules, ◌-◌}
+use Rattle.std.proofs.Common.{rules}
 use Rattle.leaf.specs.Code.Laws.{adding}
 use Rattle.threshold.specs.Code.Laws.{closings}
 use Rattle.threshold.proofs.sheet_closes.Goals as goal

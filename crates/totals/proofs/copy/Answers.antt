@@ -1,5 +1,5 @@
 -- `totals::copy` meets its contract: the first i numbers are copied.
-use Rattle.std.proofs.Common.{◌-◌, rules}
+use Rattle.std.proofs.Common.{rules}
 use Rattle.totals.proofs.CodeLaws.{copying}
 use Rattle.totals.proofs.copy.Goals as goal
 

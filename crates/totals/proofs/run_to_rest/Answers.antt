@@ -1,5 +1,5 @@
 -- `totals::run_to_rest` meets its contract: the steps that are left of the rest bound fall.
-use Rattle.std.proofs.Common.{◌-◌, arith, rules}
+use Rattle.std.proofs.Common.{arith, rules}
 use Rattle.totals.proofs.CodeLaws.{turning_small, turning}
 use Rattle.totals.proofs.run_to_rest.Goals as goal
 

@@ -1,5 +1,5 @@
 -- `totals::tally_starts` meets its contract: the totals are those of the starts counted so far.
-use Rattle.std.proofs.Common.{◌∙◌, ◌-◌, rules}
+use Rattle.std.proofs.Common.{rules}
 use Rattle.totals.proofs.TallyLaws.{has_input, tallying_none, tallying_group, tallying_room, tallying_more, tallying}
 use Rattle.totals.proofs.tally_starts.Goals as goal
 
@@ -7,13 +7,12 @@ pub first_start-requires : goal.first_start-requires
 first_start-requires c = search (has_input, tallying, rules)
 
 pub loop-going-init : goal.loop-going-init
-loop-going-init c =
-    (
-      tallying_none _ _ c.requires.docket _ c.states_section-states.ensures _ c.requires.small _ _ c.first_start.ensures,
-      search rules,
-      search rules,
-      search rules,
-    )
+loop-going-init c = (
+  tallying_none _ _ c.requires.docket _ c.states_section-states.ensures _ c.requires.small _ _ c.first_start.ensures,
+  search rules,
+  search rules,
+  search rules,
+)
 
 pub tally_start-t-requires : goal.tally_start-t-requires
 tally_start-t-requires c =

@@ -1,5 +1,5 @@
 -- The widest set of the nodes below i is known.
-use Rattle.std.proofs.Common.{◌-◌, rules}
+use Rattle.std.proofs.Common.{rules}
 use Rattle.tree.specs.Code.Laws.{widths}
 use Rattle.tree.proofs.widest.Goals as goal
 

@@ -1,5 +1,5 @@
 -- `writer::put` meets its contract: the part of the output from `at` on that is as long as the bytes holds the bytes now.
-use Rattle.std.proofs.Common.{ℕ, List, ◌≡◌, ◌≤◌, ◌+◌, ◌-◌, ◌++◌, ◌∙◌, ap, arith, rules, length, take, drop, drop-drop}
+use Rattle.std.proofs.Common.{ℕ, List, ◌≡◌, ◌≤◌, ◌+◌, ◌-◌, ◌++◌, ◌∙◌, ap, arith, length, take, drop, drop-drop}
 use borrow.Rule.Slice.PartMut.{put_mid}
 use Rattle.writer.specs.Code.{replaced}
 use Rattle.writer.proofs.put.Goals as goal

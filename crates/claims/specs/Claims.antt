@@ -1,8 +1,8 @@
 -- What is proved: begin here. Statements only. The record Claims has one field for each subject; the statements of a subject
 -- stand in a file of its own, those about dockets in OfDocket.antt, those about the writer in OfWriter.antt, those about the
 -- order of rules in OfOrder.antt, those about the number of pairs in OfPairs.antt, those about versions in OfVersions.antt, those
--- about pages in OfPage.antt, those about totals in OfTotals.antt, those about claim sheets in OfSheet.antt, and the proofs in the folder
--- beside each file.
+-- about pages in OfPage.antt, those about totals in OfTotals.antt, those about claim sheets in OfSheet.antt, and the proofs in
+-- proofs/, in a folder for each file.
 use Rattle.std.specs.Prelude.{List, ℕ}
 use Rattle.claims.specs.OfDocket.{OfDocket}
 use Rattle.claims.specs.OfWriter.{OfWriter}

@@ -1,5 +1,5 @@
 -- What is proved of every docket: its bytes b, and counts c lent with it. Statements only, to be laid beside document 01, and
--- beside document 02 for what its Jobs changed; the record OfDocket at the end says what is proved, and OfDocket/ proves it.
+-- beside document 02 for what its Jobs changed; the record OfDocket at the end says what is proved, and proofs/OfDocket/ proves it.
 -- The protocol of a docket with header h is protocol_in b h, its layers are layers_in b h, their weights weight_in b h. What is
 -- said of lists of rule numbers and of calls is stated in theory's Claims, over what the machine says of the bytes here.
 use Rattle.std.specs.Prelude.{◌≡◌, Bool, true, false, cond, List, [], ◌∷◌, ◌++◌, ◌↔◌, ◌⊎◌, ℕ, ◌+◌, ◌≤◌, ◌<◌, length, ltb, ℤ, pos, ◌-ℤ◌, ◌≤ℤ◌}
@@ -75,7 +75,7 @@ module _ (b c : List ℕ) where
         (fires P c r ≡ true → reply_of b c (step r) ≡ stepped)
         × (P.rules ≤ r → reply_of b c (step r) ≡ refused 23 r)
         × (r < P.rules → enabled P c r ≡ false → reply_of b c (step r) ≡ refused 24 r))
-    -- A run is then never refused; calls-on-sound says what its numbers are.
+    -- A run is then never refused; calls_on_sound says what its numbers are.
     pub of_run : (limit : ℕ) → CallSays (reply_of b c (run limit)) pass_back (λ P.
         (n : ℕ) × (rests : Bool) × (reply_of b c (run limit) ≡ ran n rests))
     -- A refused step or run leaves the counts as they are; the other calls are lent the counts for reading only.
@@ -247,7 +247,7 @@ pub record OfDocket (b : List ℕ) : Type 0 where
   pub definitions : (h : Header) → SoundShape b h → (c : List ℕ) → length c ≡ h.sizes.states → AsPublished (protocol_in b h) c
   -- So are active, quiet, lowest, layered and spread.
   pub layer_words : (h : Header) → SoundShape b h → (c : List ℕ) → LayersAre (protocol_in b h) (layers_in b h) (weight_in b h) c
-  -- A docket of version 1 has no fixed workers, so its starts are the paper's initial configurations (start-is).
+  -- A docket of version 1 has no fixed workers, so its starts are the paper's initial configurations (start_is).
   pub version_1 : (h : Header) → h.sizes.version ≡ 1 → Unfixed (protocol_in b h)
   -- A leaf weight within its limits is the signed number that stands in the file as 16 bits v, and just these are within them.
   pub weight_is : (v : ℕ) → v < 65536 → biased v ≤ 20000 → signed (biased v) ≡ number16 v

@@ -1,5 +1,5 @@
 -- What is proved of the order of rules (document 02, Job 5), in which the rules of every docket of version 2 stand that passes
--- tests 1 to 8. Statements only; OfOrder/ proves them.
+-- tests 1 to 8. Statements only; proofs/OfOrder/ proves them.
 use Rattle.std.specs.Prelude.{◌≡◌, true, false, ◌↔◌, ◌⊎◌, ℕ, suc, ◌<◌, take}
 use mathlib.Core.List.{List, Lex}
 use Rattle.theory.specs.Judge.{Test, Passes}

@@ -1,5 +1,5 @@
 -- What is proved of the call that runs the groups of a page (document 02, Job 8), for every docket with bytes b, counts c, limit
--- and results r as they are lent. Statements only; OfPage/ proves them. The contracts of the code say that the call answers
+-- and results r as they are lent. Statements only; proofs/OfPage/ proves them. The contracts of the code say that the call answers
 -- page_of b c r, and leaves counts_after_page b c limit r and results_after_page b c limit r.
 use Rattle.std.specs.Prelude.{◌≡◌, Bool, true, false, List, [], ◌∷◌, ◌++◌, map, ◌↔◌, ℕ, ◌+◌, ◌*◌, ◌/◌, ◌%◌, ◌≤◌, ◌<◌, eqb, length, get_or}
 use Rattle.theory.specs.Bool.{bit}
@@ -130,7 +130,7 @@ module _ (b : List ℕ) (h : Header) (c r : List ℕ) (g : ℕ) where
   -- Demand 3 of group g, where the docket is accepted.
   pub record PagesSettle : Type 0 where
     -- Size, quiet layers, the rest bound and the rank, after each call. Every list of these calls is layered. In the middle of a call
-    -- quiet layers stay quiet by PagesAreRuns, and quiet-within of OfDocket.
+    -- quiet layers stay quiet by PagesAreRuns, and quiet_within of OfDocket.
     pub rests : Rests (protocol_in b h) (layers_in b h) (weight_in b h) (group_in h c g) group_after (steps_on_pages b c r g) (λ _. true)
     -- Where the group is not refused, a limit of the rest bound, or more, is enough for rest.
     pub enough : is_within (group_in h c g) ≡ true → (limit : ℕ)

@@ -1,4 +1,4 @@
--- What is proved of the number of pairs that the can-act call answers (document 02, Job 6). Statements only; OfPairs/ proves them.
+-- What is proved of the number of pairs that the can-act call answers (document 02, Job 6). Statements only; proofs/OfPairs/ proves them.
 use Rattle.std.specs.Prelude.{◌≡◌, Bool, true, false, List, ◌↔◌, ℕ, suc, ◌≤◌, ◌<◌}
 use Rattle.theory.specs.Below.{sum_below}
 use Rattle.theory.specs.Protocol.{Protocol, size, enabled}

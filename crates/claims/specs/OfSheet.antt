@@ -1,5 +1,5 @@
 -- What is proved of claim sheets (document 02, Job 10), for every docket with bytes b and every sheet with bytes y. Statements only;
--- OfSheet/ proves them. The contract of the code says that the check of a docket with its sheet answers check_sheet_of b y.
+-- proofs/OfSheet/ proves them. The contract of the code says that the check of a docket with its sheet answers check_sheet_of b y.
 use Rattle.std.specs.Prelude.{◌≡◌, true, false, cond, List, ◌↔◌, ◌⊎◌, ℕ, ◌+◌, ◌*◌, ◌≤◌, ◌<◌, length, get_or, ltb, ℤ, pos, ◌-ℤ◌, ◌≤ℤ◌, ◌<ℤ◌}
 use Rattle.theory.specs.Protocol.{Protocol, terminal, Shows, Start, after}
 use Rattle.theory.specs.Facts.{Facts}
@@ -72,7 +72,7 @@ module _ (b y : List ℕ) where
     -- The number of a state is 0 unless it is an input.
     pub numbers : (s : ℕ) → s < S → P.input s ≡ false → le16 y (16 + 2 * s) ≡ 0
     -- In every leaf, named by a node or not, each weight is -10,000 to 10,000 (biased it is the weight plus 10,000, and OfDocket's
-    -- weight-within says that just these are within the limits) and the multiplier is at most 10,000.
+    -- weight_within says that just these are within the limits) and the multiplier is at most 10,000.
     pub weights : (l s : ℕ) → l < K.leaves → s < S → biased (le16 y (leaf_at l + 2 * s)) ≤ 20000
     pub multipliers : (l : ℕ) → l < K.leaves → le16 y (leaf_at l + 2 * S) ≤ 10000
 

@@ -1,5 +1,5 @@
 -- What is proved of the sheet of exact totals (document 02, Job 9), for every docket with bytes b and every n. Statements only;
--- OfTotals/ proves them. The contract of the code says that the call answers sheet_of b n; what the program prints of it is tested.
+-- proofs/OfTotals/ proves them. The contract of the code says that the call answers sheet_of b n; what the program prints of it is tested.
 use Rattle.std.specs.Prelude.{◌≡◌, Bool, true, false, List, map, ◌↔◌, ◌⊎◌, ℕ, suc, ◌+◌, ◌-◌, ◌*◌, ◌≤◌, ◌<◌, length, take, drop, replicate}
 use Rattle.std.specs.Bool.{beq}
 use Rattle.theory.specs.Bool.{bit}

@@ -1,6 +1,6 @@
 -- What is proved of the two versions (document 02, Jobs 4 and 5): a docket of version 1 that passes tests 1 to 8, rewritten in
 -- version 2 with no fixed workers, is answered alike where its rules stand in order, and else refused with 14. Statements only;
--- OfVersions/ proves them.
+-- proofs/OfVersions/ proves them.
 use Rattle.std.specs.Prelude.{◌≡◌, List, [], ◌∷◌, ℕ, suc, ◌+◌, ◌*◌, length}
 use Rattle.theory.specs.Machine.{Call}
 use Rattle.format.specs.Format.{header_of, sections, sections_of}

@@ -1,5 +1,5 @@
 -- What is proved of the writer (document 02, Jobs 3 to 5), for every version v, all sections x, which document 02 calls parts,
--- and every output `out`. Statements only; OfWriter/ proves them. The contracts of the code say that the writer answers write_of v
+-- and every output `out`. Statements only; proofs/OfWriter/ proves them. The contracts of the code say that the writer answers write_of v
 -- x (length out) and leaves output_of v x out in the output.
 use Rattle.std.specs.Prelude.{◌≡◌, true, List, [], ◌∷◌, ◌++◌, ◌↔◌, ◌⊎◌, ℕ, ◌+◌, ◌*◌, ◌≤◌, ◌<◌, length, take, drop}
 use Rattle.theory.specs.Below.{Clear}

@@ -1,2 +1,2 @@
-// What is proved of dockets and of the writer: definitions and theorems in specs/, and no code.
+// What is proved of dockets and of the writer: statements in specs/, their proofs in proofs/, and no code.
 #![tactic(auto)]

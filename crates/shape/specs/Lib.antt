@@ -1,5 +1,5 @@
 -- Shape: tests 1 to 8. Sound: what a docket that passes them keeps. Code: what serves the functions of this crate.
--- Laws stand below each in Laws (Shape/Marks: tests 7 and 8 by marks), computed cases in Samples.
+-- Laws stand in proofs/, in ShapeLaws and SoundLaws (MarkLaws: tests 7 and 8 by marks), computed cases in Samples.
 pub mod Shape
 pub mod Sound
 pub mod Code

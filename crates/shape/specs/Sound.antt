@@ -1,4 +1,4 @@
--- What tests 1 to 8 say of a docket that passes them, in words a caller can use. Laws proves that a sound shape gives it,
+-- What tests 1 to 8 say of a docket that passes them, in words a caller can use. SoundLaws, in proofs/, proves that a sound shape gives it,
 -- and that nothing else does.
 use Rattle.std.specs.Prelude.{◌≡◌, List, ◌⊎◌, ℕ, ◌+◌, ◌≤◌, ◌<◌, length}
 use Rattle.theory.specs.Order.{Ascending}

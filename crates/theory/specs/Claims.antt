@@ -1,5 +1,5 @@
 -- What is claimed of protocols, ladders, certificates and lists. Statements only: Claims/Theorems.antt says which of them are
--- proved of which protocols, with what is claimed of claim sheets, and Claims/Proved.antt proves it.
+-- proved of which protocols, with what is claimed of claim sheets, and proofs/Claims/Proved.antt proves it.
 use Rattle.std.specs.Prelude.{◌≡◌, Bool, true, false, not, ◌&&◌, List, [], ◌∷◌, ◌++◌, ◌↔◌, ℕ, suc, ◌+◌, ◌-◌, ◌*◌, ◌≤◌, ◌<◌, length, eqb}
 use Rattle.theory.specs.Bool.{imp}
 use Rattle.theory.specs.Protocol.{Protocol, agreed, mixed, count, size, pre, post, enabled, fire, terminal, Shows}

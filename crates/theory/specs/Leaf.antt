@@ -1,5 +1,5 @@
 -- The leaf rule of document 01, "The tree", with the fixed agents of document 02, Job 4: in natural numbers, as trees use
--- it, and below in signed numbers, word by word. That the two are one is proved (Theorems, leaf-is).
+-- it, and below in signed numbers, word by word. That the two are one is proved (Theorems, leaf_is).
 -- A weight y is biased: w = y + 10,000; the sum of two is biased by 20,000. A difference of natural numbers is 0 where it
 -- would be negative, so of w - b and b - w one is 0.
 -- The lower sum is surpluses - shortfalls, the upper sum is extras - spares: the lower exceeds the upper just when

@@ -1,4 +1,4 @@
--- Definitions stand in specs/X.antt, their laws in specs/X/, computed cases of them in specs/Cases/X.antt. What is proved
+-- Definitions stand in specs/X.antt, their laws in proofs/X/, computed cases of them in proofs/Cases/X.antt. What is proved
 -- in the end is in Claims.
 pub mod Bool
 pub mod Below

@@ -14,7 +14,7 @@ count_in A c = weigh (λ s. bit (A s)) c
 module _ (P : Protocol) where
   -- Definition 4.9: the configuration d is potentially reachable from c through x, which says how often each rule fires.
   -- U is the set of the rules that fire.
-  -- The paper has silent transitions besides, from a pair to itself; Silent proves that they make no difference.
+  -- The paper has silent transitions besides, from a pair to itself; proofs/Potential/Silent proves that they make no difference.
   pub record Potential (x : ℕ → ℕ) (c d : List ℕ) : Type 0 where
     pub sized : length d ≡ P.states
     -- (a) The flow equation of every state.

@@ -97,7 +97,7 @@ module _ (P : Protocol) where
 
   -- A start: two agents or more, and every state keeps the start rule.
   -- Fixed agents are added to the paper, which has none (in the literature they are called leaders). Where no state has fixed
-  -- agents a start is the paper's initial configuration: two agents or more, in input states only (unfixed-rule, in Laws).
+  -- agents a start is the paper's initial configuration: two agents or more, in input states only (unfixed_rule, in proofs/Protocol/Laws).
   pub record Start (c : List ℕ) : Type 0 where
     pub sized : length c ≡ P.states
     pub enough : 2 ≤ size c

@@ -1,5 +1,5 @@
 -- The remainder rule, the ground of kind 7 (document 02, Jobs 2 and 4): in natural numbers, as trees use it, and below in
--- signed numbers, word by word. That the two are one is proved (Theorems, remainder-is).
+-- signed numbers, word by word. That the two are one is proved (Theorems, remainder_is).
 -- A weight y is biased: w = y + 10,000; the sum of two is biased by 20,000. So y is 0 modulo m just when w and its bias
 -- are the same modulo m.
 -- A difference of natural numbers is 0 where it would be negative, so of w - b and b - w one is 0: the sum over the ends is

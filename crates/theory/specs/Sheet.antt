@@ -1,6 +1,6 @@
 -- Claim sheets (document 02, Job 10): which output the terminal configurations show, by a threshold on a weighed sum of the
 -- start. In natural numbers, as trees use them, and below in signed numbers, word by word. That the two are one is proved
--- (Theorems, sheet-is).
+-- (Theorems, sheet_is).
 -- The signed numbers are biased: a state's number is numbers s - 32,768, the limit c is limit - 2,147,483,648, a leaf's weight
 -- is weights l s - 10,000.
 use Rattle.std.specs.Prelude.{◌≡◌, Bool, true, false, ◌&&◌, List, ◌⊎◌, ℕ, ◌+◌, ◌-◌, ◌*◌, ◌<◌, ltb, ℤ, pos, ◌+ℤ◌, ◌-ℤ◌, ◌*ℤ◌, ◌≤ℤ◌, ◌<ℤ◌}

@@ -1,4 +1,4 @@
--- What is proved of which protocols. Statements only; Proved.antt proves them.
+-- What is proved of which protocols. Statements only; proofs/Claims/Proved.antt proves them.
 use Rattle.std.specs.Prelude.{◌≡◌, true, false, cond, List, ◌↔◌, ◌⊎◌, ℕ, ◌+◌, ◌*◌, ◌≤◌, ◌<◌, length, ◌≤ℤ◌}
 use Rattle.theory.specs.Protocol.{Protocol, WellFormed, size, terminal, Shows, Start, start_test, after, meetings}
 use Rattle.theory.specs.Ladder.{Layers, OrderedPartition, handover_at, handover, Broken, layered, Alone, Laddered, spread}

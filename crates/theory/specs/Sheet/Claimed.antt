@@ -1,4 +1,4 @@
--- The claim of a sheet in natural numbers. That it is document 02's in signed numbers is proved (Theorems, sheet-is).
+-- The claim of a sheet in natural numbers. That it is document 02's in signed numbers is proved (Theorems, sheet_is).
 use Rattle.std.specs.Prelude.{Bool, List, ℕ, ◌+◌, leb}
 use Rattle.theory.specs.Weigh.{weigh}
 use Rattle.theory.specs.Sheet.{Sheet, Threshold, at_least}

@@ -245,9 +245,12 @@ fn put(out: &mut [u8], at: usize, part: &[u8]) -> usize
     ensures room { length out.new ≡ length out.old }
     ensures output { out.new ≡ replaced out.old at part.now }
 {
-    let end = at + part.len();
-    out[at..end].copy_from_slice(part);
-    end
+    let mut i: usize = 0;
+    while i < part.len() {
+        out[at + i] = part[i];
+        i += 1;
+    }
+    at + i
 }
 
 // Writes the docket of the sections to the beginning of the output, and returns its length.

@@ -1,17 +1,30 @@
--- `writer::put` meets its contract: the part of the output from `at` on that is as long as the bytes holds the bytes now.
-use Rattle.std.proofs.Common.{ℕ, List, ◌≡◌, ◌≤◌, ◌+◌, ◌-◌, ◌++◌, ◌∙◌, ap, arith, length, take, drop, drop-drop}
-use borrow.Rule.Slice.PartMut.{put_mid}
+-- `writer::put` meets its contract: when the whole part is written, the output is the one that the part replaced.
+use Rattle.std.proofs.Common.{ℕ, List, ◌≡◌, ◌+◌, ◌++◌, ◌∙◌, ap, arith, length, take, drop, set, get_or}
+use Rattle.std.proofs.Math.Seq.{paste, take-length}
+use Rattle.std.proofs.lemmas.List.Edits.{paste_none, paste_more}
+use mathlib.Core.List.{append_assoc}
 use Rattle.writer.specs.Code.{replaced}
 use Rattle.writer.proofs.put.Goals as goal
 
-part_put : (out part ys : List ℕ) (at : ℕ) → at + length part ≤ length out → ys ≡ part
-    → put_mid at (at + length part - at) out ys ≡ replaced out at part
+pasted : (out part : List ℕ) (at i : ℕ) → i ≡ length part → paste out at part i ≡ replaced out at part
 unfolding replaced
-part_put out part ys at room e =
-    let k : at + length part - at ≡ length part = omega arith in
-    ap (λ f. take at out ++ (f ++ drop (at + length part - at) (drop at out))) e
-    ∙ ap (λ n. take at out ++ (part ++ drop n (drop at out))) k
-    ∙ ap (λ f. take at out ++ (part ++ f)) (drop-drop (length part) at out)
+pasted out part at i e =
+    let rest = drop (at + length part) out in
+    let whole : paste out at part (length part) ≡ replaced out at part =
+    append_assoc (take at out) (take (length part) part) rest ∙ ap (λ f. take at out ++ (f ++ rest)) (take-length part) in
+    ap (paste out at part) e ∙ whole
+
+pub loop-i-init : goal.loop-i-init
+loop-i-init c = (omega arith, paste_none c.args.out.now c.args.at c.args.part.now)
+
+pub loop-i-preserved : goal.loop-i-preserved
+loop-i-preserved c =
+    let o = c.args.out.now in (
+      omega arith,
+      ap (λ b. set b (c.args.at + c.loop-i.i) (get_or c.args.part.now c.loop-i.i 0)) c.loop-i.invariant.1
+          ∙ paste_more o c.args.at c.args.part.now c.loop-i.i 0 (omega (arith, c.requires)) c.loop-i-test.true,
+    )
 
 pub returns-clause-output : goal.returns-clause-output
-returns-clause-output c = part_put _ _ _ _ c.requires c.copy_from_slice.ensures.after
+returns-clause-output c =
+    c.loop-i.invariant.1 ∙ pasted c.args.out.now c.args.part.now c.args.at c.loop-i.i (omega (arith, c.loop-i.invariant.0, c.loop-i-test.false))

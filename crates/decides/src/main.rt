@@ -13,7 +13,8 @@ use std::io::{Print, Read};
 
 // Reads at most so many bytes of the input into the buffer, and answers how many.
 fn read_part(input: &mut impl Read, buffer: &mut [u8], most: u16) -> io::Result<usize>
-    ensures { IfOk result (λ n. n ≤ length buffer.new) }
+    ensures ok { IfOk result (λ n. n ≤ length buffer.new) }
+    ensures room { length buffer.new ≡ length buffer.old }
 {
     let end = most as usize;
     if buffer.len() < end {
@@ -53,7 +54,9 @@ fn read_both(
     docket: &mut [u8],
     sheet: &mut [u8],
 ) -> io::Result<(usize, usize)>
-    ensures { IfOk result (λ ends. (ends.0 ≤ length docket.new) × (ends.1 ≤ length sheet.new)) }
+    ensures ok { IfOk result (λ ends. (ends.0 ≤ length docket.new) × (ends.1 ≤ length sheet.new)) }
+    ensures docket_room { length docket.new ≡ length docket.old }
+    ensures sheet_room { length sheet.new ≡ length sheet.old }
 {
     let mut head = [0u8; 2];
     input::read_full(input, &mut head)?;

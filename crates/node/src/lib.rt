@@ -304,7 +304,7 @@ fn test_in_run(
     test_set(states, rules, z, unused, set, reversed)
 }
 
-// Whether a word is a non_empty set of states.
+// Whether a word is a non-empty set of states.
 fn is_set(z: Sizes, set: u64) -> bool
     ensures { result ≡ (ltb 0 set && ltb set (2 ^ z.states)) }
 {

@@ -16,7 +16,7 @@ need() {
 }
 
 need "$library" tools/library
-need target/bin/tally 'rt check tally'
+need target/bin/tally tools/programs
 for program in page_reader page_votes random_vote table_editor; do
   cc -std=c99 -Wall -Wextra -Wpedantic -Werror -Iinclude "examples/$program.c" "$library" -o "$work/$program"
 done

@@ -18,7 +18,7 @@ number() { if [ "$1" = 1 ]; then echo "$1 $2"; else echo "$1 $3"; fi; }
 case $1 in '' | *[!0-9]* | 0?* | ????*) die "totals.sh: $1: not a number of 0 to 255" ;; esac
 [ "$1" -le 255 ] || die "totals.sh: $1: not a number of 0 to 255"
 if [ ! -r "$2" ] || [ -d "$2" ]; then die "totals.sh: $2: cannot be read"; fi
-[ -x "$program" ] || die "totals.sh: no target/bin/tally; 'rt check tally' makes it"
+[ -x "$program" ] || die "totals.sh: no target/bin/tally; tools/programs makes it"
 
 # The program reads N as one byte, which printf is given in octal.
 octal=$(printf '%o' "$1")

@@ -27,6 +27,7 @@ unit='echo "test result: ok. 400 passed; 0 failed; 0 ignored"; echo "test result
 stand_in "$work/bin/rt" "$many" rt
 stand_in "$work/bin/cargo" "if [[ \$1 == test ]]; then $unit; else $many; fi" cargo
 stand_in "$work/repo/tools/library" ':' library
+stand_in "$work/repo/tools/programs" ':' programs
 for part in tests/boundary examples tests/tools tests/gate; do
   stand_in "$work/repo/$part/check.sh" "$many" "${part//\//-}"
 done
@@ -57,8 +58,9 @@ if ((failed > 0)); then sum; fi
 for package in second tests bench; do
   holds "all tests of $package are run" called "cargo test --offline --release --quiet --manifest-path $package/Cargo.toml"
 done
-holds 'the crates are proved from nothing' called 'rt ci'
-holds 'the layout of the crates is checked' called 'rt fmt --check'
+holds 'the crates are proved' called 'rt ci'
+holds 'and rt is called for nothing else' test "$(grep -c '^rt ' "$work/calls")" -eq 1
+holds 'the programs are made' called 'programs '
 holds 'the library is made' called 'library '
 
 for part in tests-boundary examples tests-tools tests-gate rt; do
@@ -73,6 +75,20 @@ gate examples 'echo 3 passed, 0 failed'
 holds 'a part in which tests are gone' fails
 gate library 'exit 1'
 holds 'a library that is not made' fails
+gate programs 'exit 1'
+holds 'programs that are not made' fails
+# What rt ci says of the edits before its last line.
+edits() { printf 'echo "rt: ok; handles allowed: none; must-fail edits: %s; every proof was done in this run"; %s' "$1" "$many"; }
+for bad in '249 refused, 1 bad' '240 refused, 3 of them only by a limit, 10 bad'; do
+  gate rt "$(edits "$bad")"
+  holds "must-fail edits: $bad" fails
+done
+gate rt "$(edits '250 refused, 3 of them only by a limit')"
+holds 'no must-fail edit is bad' passes $((number * (parts - packages) + 402 * packages))
+gate rt "pwd >'$work/where'; $many"
+holds 'rt ci is called at the top of the checkout' test "$(<"$work/where")" = "$work/repo"
+gate rt 'echo "rt: FAILED: docket"; echo "301 passed, 1 failed"; exit 1'
+holds 'a crate that is not proved' fails
 # shellcheck disable=SC2016
 tests_do() { printf 'if [[ $1 == test ]]; then %s; else %s; fi' "$1" "$many"; }
 gate cargo "$(tests_do "$unit; echo 'test result: FAILED. 400 passed; 1 failed; 0 ignored'")"

@@ -371,11 +371,12 @@ holds 'no progress where standard error is no terminal' test ! -s "$work/said"
 
 # ---- building, in a small repository with an rt that proves nothing
 
-mkdir -p "$work/repo/tools" "$work/repo/crates/docket/src" "$work/rt"
+mkdir -p "$work/repo/tools" "$work/repo/crates/docket/src" "$work/repo/crates/decides/src" "$work/repo/crates/tree/proofs/out" "$work/rt"
 cp "$root/tools/docket" "$work/repo/tools/"
 : >"$work/repo/crates.txt"
 : >"$work/repo/crates/docket/src/main.rt"
-made=$work/repo/target/bin/docket
+: >"$work/repo/crates/tree/proofs/out/Answers.antt"
+made=$work/repo/crates/docket/out/docket
 programs=$work/repo/target/tools
 program=$programs/docket
 small_tool=$work/repo/tools/docket
@@ -393,10 +394,10 @@ rt_does() {
   : >"$work/rt/calls"
   cat >"$work/rt/does"
 }
-# Whether rt was called in the repository to check the programs that are named, in this order, and no others.
-checked() { [[ $(<"$work/rt/calls") == "$(printf "$work/repo: check %s\n" "$@")" ]]; }
+# Whether rt was called to build the programs that are named, each in its folder, in this order, and no others.
+checked() { [[ $(<"$work/rt/calls") == "$(printf "$work/repo/crates/%s: run\n" "$@")" ]]; }
 # Whether rt was called $1 times, each time as it must be.
-built() { [[ $(wc -l <"$work/rt/calls") == "$1" && $(sort -u "$work/rt/calls") == "$work/repo: check docket" ]]; }
+built() { [[ $(wc -l <"$work/rt/calls") == "$1" && $(sort -u "$work/rt/calls") == "$work/repo/crates/docket: run" ]]; }
 # Whether rt was not called.
 not_built() { [[ ! -s $work/rt/calls ]]; }
 small() { try env PATH="$work/rt:$PATH" "$small_tool" "$@"; }
@@ -406,14 +407,17 @@ program_does() { printf '#!/bin/sh\n%s\n' "$2" >"$programs/$1"; }
 line="good.docket: $good
 1 file: 1 accepted, 0 refused, 0 trouble"
 
-# What rt does where it builds the program that is its second argument: as the real one, nothing where it finds its stamp.
-builds="[ ! -e target/stamp/\$2 ] || exit 0
-mkdir -p target/bin target/stamp
+# What rt does where it builds the program of the folder that it is called in: as the real one, it keeps work in that folder and
+# in those of the crates below, and builds nothing where it finds the program and its stamp.
+builds="name=\${PWD##*/}
+mkdir -p out ../tree/out/rlib
+: >../tree/out/rlib/stamp
+if [ -e out/\$name ] && [ -e out/\$name.stamp ]; then exit 0; fi
 says='$good'
-[ \$2 = docket ] || says='accepted 0 1 1'
-printf '#!/bin/sh\necho %s\n' \"\$says\" >target/bin/\$2
-chmod +x target/bin/\$2
-: >target/stamp/\$2"
+[ \$name = docket ] || says='accepted 0 1 1'
+printf '#!/bin/sh\necho %s\n' \"\$says\" >out/\$name
+chmod +x out/\$name
+: >out/\$name.stamp"
 
 rt_does <<<"$builds"
 small missing.docket folder.docket
@@ -431,7 +435,7 @@ holds 'a missing file is said before the build' test "$(head -n 1 "$err")" = 'do
 holds 'the first use builds, and says so' ended 2 "good.docket: $good
 missing.docket: trouble: no such file
 2 files: 1 accepted, 0 refused, 1 trouble" 'some minutes'
-holds 'rt is called in the repository, to check docket' built 1
+holds 'rt is called in the folder of docket, to build it' built 1
 small good.docket
 holds 'the second use does not build' printed 0 "$line"
 holds 'rt is not called' built 1
@@ -442,7 +446,7 @@ rm "$program"
 small good.docket
 holds 'a copy that was removed is made again' ended 0 "$line" 'some minutes'
 
-for source in crates/docket/src/main.rt crates/docket/src crates.txt; do
+for source in crates/docket/src/main.rt crates/docket/src crates/tree/proofs/out/Answers.antt crates.txt; do
   rt_does <<<':'
   find "$work/repo" -exec touch -t 200001010000 {} +
   touch -t 200001020000 "$program"
@@ -458,7 +462,7 @@ done
 # A source that changes while rt is at work is newer than the program: the next use builds again.
 rt_does <<EOF
 : >"$work/begun"
-until [ -n "\$(find crates.txt -newer "$work/begun")" ]; do touch crates.txt; done
+until [ -n "\$(find ../../crates.txt -newer "$work/begun")" ]; do touch ../../crates.txt; done
 EOF
 touch "$work/repo/crates.txt"
 rm "$program"
@@ -545,7 +549,7 @@ touch -t 200001030000 "$work/repo/crates.txt"
 small --claim good.sheet good.docket
 holds 'both programs that are older than a source are built' checked docket decides
 rt_does <<<"$builds"
-rm "$work/repo/target/bin/decides" "$programs/decides"
+rm "$work/repo/crates/decides/out/decides" "$programs/decides"
 small --claim good.sheet good.docket
 holds 'a program decides that was removed is built again' ended 0 "$claimed" 'some minutes'
 holds 'and it alone' checked decides
@@ -585,7 +589,7 @@ rt_does <<<':'
 small good.docket
 holds 'a build that leaves no program' ended 2 '' 'the build failed'
 rt_does <<EOF
-[ \$2 = docket ] || { echo decides is not proved; exit 1; }
+[ \${PWD##*/} = docket ] || { echo decides is not proved; exit 1; }
 $builds
 EOF
 rm "$programs/decides"
@@ -607,14 +611,14 @@ try "$work/bin/copy" good.docket
 holds 'a copy outside a repository' ended 2 '' 'is not the repository'
 
 # ---- two uses at once, and signals
-# Where it is to check $1 and the file 'waits' is there, the stand-in for rt writes a line to 'begun.fifo' and then waits for
+# Where it is to build $1 and the file 'waits' is there, the stand-in for rt writes a line to 'begun.fifo' and then waits for
 # one from 'go'. A child of its own holds 'alive' open: the test's read of that ends when the last process of the build has
 # ended.
 
 mkfifo "$work/begun.fifo" "$work/go" "$work/alive" "$work/says"
 waiting_rt() {
   rt_does <<EOF
-if [ \$2 = "$1" ] && [ -e "$work/waits" ]; then
+if [ \${PWD##*/} = "$1" ] && [ -e "$work/waits" ]; then
   rm "$work/waits"
   sleep 1000 >"$work/alive" 2>&1 &
   echo \$! >"$work/sleeper"
@@ -624,7 +628,7 @@ if [ \$2 = "$1" ] && [ -e "$work/waits" ]; then
 fi
 $builds
 EOF
-  rm -rf "$work/repo/target"
+  rm -rf "$work/repo/target" "$work/repo"/crates/*/out
   : >"$work/waits"
 }
 # Starts the tool beside this script, with no signal ignored; its lines go to $1.out, what it says to $2, and its arguments

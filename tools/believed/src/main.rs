@@ -6,7 +6,7 @@
 //!     believed --lines    print how many lines each crate has of each sort
 //!
 //! A file `specs/X.antt` holds definitions to be believed. `Code`, `Samples`, `Dockets`, `Cases`, `Unfold` and whatever stands in
-//! a folder below `specs/` do not: they serve functions, compute cases, or prove.
+//! a folder below `specs/` do not: they serve functions, compute cases, or prove. What stands in `proofs/` proves.
 
 mod page;
 mod source;

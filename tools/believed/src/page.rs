@@ -75,8 +75,10 @@ pub fn lines(sources: &Sources, believed: &BTreeSet<Name>) -> String {
             .filter(|n| n.krate == *krate && n.module != "declared")
             .cloned()
             .collect();
-        let cases =
-            |m: &str| m.starts_with("Cases") || m.starts_with("Samples") || m.starts_with("Dockets") || m == "Unfold";
+        let cases = |m: &str| {
+            let m = m.trim_start_matches("proofs.");
+            m.starts_with("Cases") || m.starts_with("Samples") || m.starts_with("Dockets") || m == "Unfold"
+        };
         let row = [
             count(sources, &names),
             sources.size(krate, |m| is_page(m) || m == "Code") - count(sources, &names),

@@ -5,7 +5,8 @@ use std::fs;
 use std::io;
 use std::path::{Path, PathBuf};
 
-/// A definition: its crate, its module (as `Ladder` or `Ladder.Laws`; `declared` for a type of the code) and its name.
+/// A definition: its crate, its module (as `Below` or `Below.Ends`; `proofs.Below.Laws` for what stands in `proofs/`, `declared`
+/// for a type of the code) and its name.
 #[derive(Clone, Debug, PartialEq, Eq, PartialOrd, Ord, Hash)]
 pub struct Name {
     pub krate: String,
@@ -56,9 +57,15 @@ pub struct Sources {
 
 /// The parts of a text that can be names.
 fn words(text: &str) -> Vec<&str> {
-    text.split(|c: char| c.is_whitespace() || "(){}[],;:|⌜⌝".contains(c))
+    text.split(|c: char| c.is_whitespace() || "(){}[],;:|".contains(c))
         .filter(|w| !w.is_empty())
         .collect()
+}
+
+/// The parts of a projection or of a name in a module: `P.states` is (P, states). What a lambda binds, `i.`, is none.
+fn parts_of(word: &str) -> Option<(&str, &str)> {
+    word.split_once('.')
+        .filter(|(head, rest)| !head.is_empty() && !rest.is_empty())
 }
 
 fn without_comment(line: &str) -> &str {
@@ -69,11 +76,10 @@ fn without_comment(line: &str) -> &str {
     }
 }
 
-/// `Rattle·theory.specs.Ladder.Laws` is (theory, Ladder.Laws).
+/// `Rattle.theory.specs.Below.Ends` is (theory, Below.Ends), and `Rattle.theory.proofs.Below.Laws` (theory, proofs.Below.Laws).
 fn module_of(path: &str) -> Option<(String, String)> {
-    let rest = path.strip_prefix("Rattle·")?;
-    let (krate, module) = rest.split_once(".specs.")?;
-    Some((krate.trim_end_matches("·specs").to_string(), module.to_string()))
+    let (krate, module) = path.strip_prefix("Rattle.")?.split_once('.')?;
+    Some((krate.into(), module.trim_start_matches("specs.").into()))
 }
 
 impl File {
@@ -142,7 +148,7 @@ fn read_file(path: &Path) -> io::Result<File> {
             file.import(line);
             continue;
         }
-        if line.starts_with("pub mod ") {
+        if line.starts_with("pub mod ") || line.starts_with("mod ") {
             continue;
         }
         file.size += 1;
@@ -199,6 +205,9 @@ fn read_types(path: &Path) -> io::Result<File> {
     for (at, line) in text.lines().enumerate() {
         if let Some(rest) = line.strip_prefix("// ") {
             comment.push(rest.to_string());
+            continue;
+        }
+        if line.starts_with("#[") {
             continue;
         }
         let head = line.trim_start_matches("pub ");
@@ -258,23 +267,32 @@ impl Sources {
         let crates: Vec<String> = text
             .lines()
             .filter_map(|l| l.split_once(':'))
-            .map(|(name, _)| name.trim().to_string())
+            .filter_map(|(name, _)| name.split_whitespace().next())
+            .map(str::to_string)
             .collect();
         let mut files = BTreeMap::new();
         for krate in &crates {
-            let specs = root.join(krate).join("specs");
-            for path in if specs.is_dir() {
-                files_below(&specs)?
-            } else {
-                Vec::new()
-            } {
-                let below = path.strip_prefix(&specs).unwrap().with_extension("");
-                let module = below
-                    .components()
-                    .map(|c| c.as_os_str().to_string_lossy().into_owned())
-                    .collect::<Vec<_>>()
-                    .join(".");
-                files.insert((krate.clone(), module), read_file(&path)?);
+            for (folder, prefix) in [("specs", ""), ("proofs", "proofs.")] {
+                let folder = root.join(krate).join(folder);
+                for path in if folder.is_dir() {
+                    files_below(&folder)?
+                } else {
+                    Vec::new()
+                } {
+                    let below = path.strip_prefix(&folder).unwrap().with_extension("");
+                    let module = below
+                        .components()
+                        .map(|c| c.as_os_str().to_string_lossy().into_owned())
+                        .collect::<Vec<_>>()
+                        .join(".");
+                    // A function's proof stands in files of these names.
+                    if !["Answers", "Invariants", "Proof"]
+                        .iter()
+                        .any(|name| below.ends_with(name))
+                    {
+                        files.insert((krate.clone(), format!("{prefix}{module}")), read_file(&path)?);
+                    }
+                }
             }
             let code = root.join(krate).join("src/lib.rt");
             if code.is_file() {
@@ -308,7 +326,7 @@ impl Sources {
         &self.files[&(name.krate.clone(), name.module.clone())].definitions[&name.name]
     }
 
-    /// The names that a text in a file mentions. A field (`x .states`, `states = ..` in a record) is none.
+    /// The names that a text in a file mentions. A field (`x.states`, `states = ..` in a record) is none.
     fn mentioned(&self, own: &Name, text: &str) -> Vec<Name> {
         let Some(file) = self.file(own) else { return Vec::new() };
         let all = words(text);
@@ -321,9 +339,14 @@ impl Sources {
                 found.push(name.clone());
             } else if file.definitions.contains_key(*word) && all.get(i + 1) != Some(&"=") {
                 found.push(Name::new(&own.krate, &own.module, word));
-            } else if let Some((module, name)) = word.split_once('.') {
-                if let Some((krate, module)) = file.modules.get(module) {
+            } else if let Some((head, rest)) = parts_of(word) {
+                if let Some((krate, module)) = file.modules.get(head) {
+                    let name = parts_of(rest).map_or(rest, |(name, _)| name);
                     found.push(Name::new(krate, module, name));
+                } else if let Some(name) = file.names.get(head) {
+                    found.push(name.clone());
+                } else if file.definitions.contains_key(head) {
+                    found.push(Name::new(&own.krate, &own.module, head));
                 }
             }
         }
@@ -374,7 +397,8 @@ impl Sources {
                 exported = false;
             }
             if exported {
-                found.extend(words(line).into_iter().filter_map(|w| file.names.get(w)).cloned());
+                let heads = words(line).into_iter().map(|w| parts_of(w).map_or(w, |(head, _)| head));
+                found.extend(heads.filter_map(|w| file.names.get(w)).cloned());
             }
         }
         found

@@ -7,6 +7,7 @@ Names that would fall together with another name get `_lem`, or stay; the script
 """
 import collections
 import glob
+import os
 import re
 
 TOKEN = re.compile(r"(?<![\w'′·-])[^\W\d_][\w'′·]*(?:-[\w'′·≤]+)*|_[\w']+")
@@ -164,6 +165,8 @@ def goals(text):
 
 
 if __name__ == "__main__":
+    if os.path.exists("docs/PORT.md"):
+        raise SystemExit("docs/PORT.md is there: this has been run")
     for path in specs + lemmas:
         text = open(path, encoding="utf-8").read()
         open(path, "w", encoding="utf-8").write(respell(apart(path, text)))

@@ -5,10 +5,10 @@
 // header's, which is 1, 0.
 #![tactic(auto)]
 
-ghost use Rattle.std.specs.Prelude.{◌≡◌, min, length, IfOk};
+ghost use Rattle.std.specs.Prelude.{◌≡◌, ◌≤◌, min, length, IfOk};
 
 use std::io;
-use std::io::Print;
+use std::io::{Print, Read};
 use totals::Tallied;
 
 // Prints the first n counts, each with a space before it, and answers how many there are.
@@ -26,16 +26,23 @@ fn print_counts(rt: &impl Print, counts: &[u32], n: u16) -> io::Result<usize>
     Ok(s)
 }
 
+// Reads n and the docket, and answers how many bytes of the docket there are.
+fn read_both(input: &mut impl Read, n: &mut [u8], docket: &mut [u8]) -> io::Result<usize>
+    ensures ok { IfOk result (λ end. end ≤ length docket.new) }
+    ensures n_room { length n.new ≡ length n.old }
+    ensures docket_room { length docket.new ≡ length docket.old }
+{
+    input::read_full(input, n)?;
+    input::read_full(input, docket)
+}
+
 fn main(rt: HostRuntime) -> io::Result<()> {
     let mut n = [0u8; 1];
-    let mut buffer = [0u8; 65536];
-    let Ok(_) = input::read_full(&mut rt.stdin(), &mut n) else {
+    let mut docket = [0u8; 65536];
+    let Ok(end) = read_both(&mut rt.stdin(), &mut n, &mut docket) else {
         return eprintln!(rt; "tally: standard input cannot be read");
     };
-    let Ok(length) = input::read_full(&mut rt.stdin(), &mut buffer) else {
-        return eprintln!(rt; "tally: standard input cannot be read");
-    };
-    let sheet = totals::tally(&buffer[..length], n[0]);
+    let sheet = totals::tally(&docket[..end], n[0]);
     match sheet.tallied {
         Tallied::Counted(t) => {
             print!(rt; "{} {} {} {}", t.starts, t.zeros, t.ones, t.most)?;

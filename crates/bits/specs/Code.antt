@@ -1,5 +1,5 @@
 -- What the functions on words answer: a word of 64 bits as the set of its members, the numbers of its set bits.
-use Rattle.std.specs.Prelude.{Bool, not, ◌&&◌, ◌||◌, List, ℕ, ◌+◌, ◌*◌, ◌/◌, ◌%◌, ltb, eqb, get_or}
+use Rattle.std.specs.Prelude.{◌≡◌, Bool, false, not, ◌&&◌, ◌||◌, List, ℕ, ◌+◌, ◌*◌, ◌/◌, ◌%◌, ◌≤◌, ◌<◌, ltb, eqb, get_or}
 use Rattle.theory.specs.Bool.{member, imp}
 use Rattle.theory.specs.Below.{all_below, first_below}
 pub mod Laws
@@ -15,6 +15,11 @@ full_of n = λ j. ltb j 64 && ltb j n
 -- The numbers below n, and below 64, that pass f.
 unfoldable pub among_of : ℕ → (ℕ → Bool) → ℕ → Bool
 among_of n f j = ltb j 64 && (ltb j n && f j)
+
+-- The set w of the numbers below n, and below 64, that a test passes, where Gives i t says that it may give t at i.
+pub record Among (Gives : ℕ → Bool → Type 0) (n w : ℕ) : Type 0 where
+  pub inside : (i : ℕ) → i < n → i < 64 → Gives i (member w i)
+  pub beyond : (i : ℕ) → n ≤ i → member w i ≡ false
 
 -- The members of a and those of b.
 abbrev pub union_of : ℕ → ℕ → ℕ → Bool

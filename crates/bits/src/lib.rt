@@ -4,7 +4,7 @@
 ghost use Rattle.std.specs.Prelude.{◌≡◌, ◌<◌};
 ghost use Rattle.theory.specs.Bool.{member};
 ghost use Rattle.theory.specs.Tree.{set_size};
-ghost use Rattle.bits.specs.Code.{single_of, full_of, union_of, with_if, without_of, subset_of, disjoint_of, lowest_of, in_words, in_word};
+ghost use Rattle.bits.specs.Code.{single_of, full_of, union_of, with_if, without_of, subset_of, disjoint_of, lowest_of, in_words, in_word, Among};
 
 // Whether i is a member.
 pub fn has(w: u64, i: usize) -> bool
@@ -47,9 +47,21 @@ pub fn with_if(w: u64, t: bool, i: usize) -> u64
     ensures { member result ≡ with_if t i w }
 {
     if i < 64 {
-        return union(w, (t as u64) << i);
+        return union(w, u64::from(t) << i);
     }
     w
+}
+
+// The numbers below n, and below 64, that pass the test.
+pub fn among<F: Fn(u16) -> bool>(n: u16, test: F) -> u64
+    requires { F.IsAlwaysCallable test }
+    ensures { Among (F.post test) n result }
+{
+    let mut set = 0;
+    for i in 0..n {
+        set = with_if(set, test(i), usize::from(i));
+    }
+    set
 }
 
 // The members of a that are none of b.
@@ -91,5 +103,5 @@ pub fn lowest(w: u64) -> u32
 pub fn word(set: [u64; 4], q: usize) -> u64
     ensures { member result ≡ in_word q (in_words set) }
 {
-    if q < 4 { set[q] } else { 0 }
+    set.get(q).copied().unwrap_or(0)
 }

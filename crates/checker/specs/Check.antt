@@ -1,18 +1,16 @@
 -- The whole check of a docket (document 01, "What a call says"): tests 1 to 13 in order, with 14
 -- between 7 and 8; a tree goes node by node.
-use Rattle.std.specs.Prelude.{not, List, [], ◌∷◌, ℕ}
+use Rattle.std.specs.Prelude.{not, List, [], ◌∷◌, ℕ, Result, Ok, Err}
 use Rattle.theory.specs.Judge.{Test, judge}
 use Rattle.theory.specs.Protocol.{Protocol}
 use Rattle.theory.specs.Ladder.{Layers, lowers_at, handover_at, spreads}
 use Rattle.theory.specs.Tree.{Walked, next, refused, disagreement, tree_answer, widest}
 use Rattle.format.specs.Format.{Sections, sections_of, layer_weight, protocol_of, layers_of, tree_of, weights_of}
 use Rattle.format.specs.declared.Sizes.{Sizes}
-use Rattle.shape.specs.Shape.{refusal, shape_of, by_shape}
-use Rattle.shape.specs.declared.Refusal.{Refusal}
+use Rattle.refusals.specs.Refusal.{Refusal, refusal}
+use Rattle.shape.specs.Shape.{shape_of, by_shape}
 use Rattle.leaf.specs.Leaf.{leaf_test}
 use Rattle.checker.specs.declared.Summary.{Summary}
-use Rattle.checker.specs.declared.Checked.{Checked}
-use Rattle.checker.specs.declared.Checked.TheVariants.{Accepted, Refused}
 pub mod Laws
 
 -- The sections x of a docket with sizes z.
@@ -52,19 +50,19 @@ module _ (z : Sizes) (x : Sections) where
       }
 
 -- What the walk comes to, f being what is said of an accepted docket.
-abbrev pub tree_check : Summary → Walked → Checked
-tree_check f (next j) = Accepted f
-tree_check f (refused n k) = Refused (refusal n k)
+abbrev pub tree_check : Summary → Walked → Result Summary Refusal
+tree_check f (next j) = Ok f
+tree_check f (refused n k) = Err (refusal n k)
 
 -- Tests 9 to 13.
-unfoldable pub sections_check : Sizes → Sections → Checked
-sections_check z x = judge (λ n k. Refused (refusal n k)) (tree_check (summary_of z x) (walk_of z x)) (certificate_tests z x)
+unfoldable pub sections_check : Sizes → Sections → Result Summary Refusal
+sections_check z x = judge (λ n k. Err (refusal n k)) (tree_check (summary_of z x) (walk_of z x)) (certificate_tests z x)
 
 -- The check: tests 1 to 8, then the others.
-unfoldable pub check_of : List ℕ → Checked
-check_of b = by_shape Refused (λ h. sections_check h.sizes (sections_of b h)) (shape_of b)
+unfoldable pub check_of : List ℕ → Result Summary Refusal
+check_of b = by_shape Err (λ h. sections_check h.sizes (sections_of b h)) (shape_of b)
 
 -- What a call that wants an accepted docket comes to: x, or what it makes of the check's refusal.
-abbrev pub on_accepted : {A : Type 0} → (Refusal → A) → A → Checked → A
-on_accepted refuse x (Accepted f) = x
-on_accepted refuse x (Refused r) = refuse r
+abbrev pub on_accepted : {A : Type 0} → (Refusal → A) → A → Result Summary Refusal → A
+on_accepted refuse x (Ok f) = x
+on_accepted refuse x (Err r) = refuse r

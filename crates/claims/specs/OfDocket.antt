@@ -2,7 +2,8 @@
 -- beside document 02 for what its Jobs changed; the record OfDocket at the end says what is proved, and proofs/OfDocket/ proves it.
 -- The protocol of a docket with header h is protocol_in b h, its layers are layers_in b h, their weights weight_in b h. What is
 -- said of lists of rule numbers and of calls is stated in theory's Claims, over what the machine says of the bytes here.
-use Rattle.std.specs.Prelude.{◌≡◌, Bool, true, false, cond, List, [], ◌∷◌, ◌++◌, ◌↔◌, ◌⊎◌, ℕ, ◌+◌, ◌≤◌, ◌<◌, length, ltb, ℤ, pos, ◌-ℤ◌, ◌≤ℤ◌}
+use Rattle.refusals.specs.Refusal.{Refusal, refusal}
+use Rattle.std.specs.Prelude.{◌≡◌, Bool, true, false, cond, List, [], ◌∷◌, ◌++◌, ◌↔◌, ◌⊎◌, ℕ, ◌+◌, ◌≤◌, ◌<◌, length, ltb, ℤ, pos, ◌-ℤ◌, ◌≤ℤ◌, Ok, Err, Some, None}
 use Rattle.theory.specs.Judge.{Test, Passes, FirstFits}
 use Rattle.theory.specs.Protocol.{Protocol, enabled, terminal, Shows, StartRule, Start, Unfixed, fires, after, meetings}
 use Rattle.theory.specs.Pairs.{pairs}
@@ -16,19 +17,12 @@ use Rattle.theory.specs.Machine.{Call, step, run, Reply, stepped, ran, refused, 
 use Rattle.theory.specs.Claims.{Certified, AsPublished, LayersAre, LayeredBy, WS², WS³, Rests, OneOutput, AllRefused, CallsMake, CallsRest, Rank}
 use Rattle.format.specs.Format.{header_of, sections_of, protocol_in, layers_in, weight_in, biased, end_weight, tree_of, weights_of}
 use Rattle.format.specs.declared.Header.{Header}
-use Rattle.shape.specs.Shape.{refusal, shape_tests, shape_of}
+use Rattle.shape.specs.Shape.{shape_tests, shape_of}
 use Rattle.shape.specs.Sound.{SoundShape}
-use Rattle.shape.specs.declared.Refusal.{Refusal}
-use Rattle.shape.specs.declared.Shape.TheVariants as shape
 use Rattle.checker.specs.Check.{certificate_tests, summary_of, check_of}
 use Rattle.checker.specs.declared.Summary.{Summary}
-use Rattle.checker.specs.declared.Checked.TheVariants.{Accepted, Refused}
 use Rattle.machine.specs.Calls.{start_of, pairs_of, terminal_of, verdict_of, reply_of, counts_of}
-use Rattle.machine.specs.declared.Started.TheVariants as started
-use Rattle.machine.specs.declared.Pairs.TheVariants as paired
-use Rattle.machine.specs.declared.YesNo.TheVariants as answer
-use Rattle.machine.specs.declared.Verdict.TheVariants as shown
-use Rattle.codes.specs.Codes.{code, call_code, check_code, start_code, pairs_code, yes_no_code, verdict_code, reply_code}
+use Rattle.codes.specs.Codes.{code, call_code, check_code, answer_code, reply_code}
 
 -- ---- Demand 1: what every call says, for every file, counts and number. The contracts of the code say that each call answers
 -- by the definition named here: start_of, pairs_of, terminal_of, verdict_of, reply_of, counts_of, check_of.
@@ -37,7 +31,7 @@ module _ (b c : List ℕ) where
   -- How every machine call answers: a is its answer, refuse r the answer that refuses by r. A refusal of tests 1 to 8 is passed
   -- back; then counts are refused by 20, then by 21, both at place 0; else Own holds of the docket's protocol.
   pub record CallSays {A : Type 0} (a : A) (refuse : Refusal → A) (Own : Protocol → Type 0) : Type 0 where
-    pub passed_back : (r : Refusal) → shape_of b ≡ shape.Refused r → a ≡ refuse r
+    pub passed_back : (r : Refusal) → shape_of b ≡ Err r → a ≡ refuse r
     pub not_sized : (h : Header) → SoundShape b h → is_sized (protocol_in b h) c ≡ false → a ≡ refuse (refusal 20 0)
     pub not_within : (h : Header) → SoundShape b h → is_sized (protocol_in b h) c ≡ true → is_within c ≡ false → a ≡ refuse (refusal 21 0)
     pub own : (h : Header) → SoundShape b h → admitted (protocol_in b h) c ≡ true → Own (protocol_in b h)
@@ -55,21 +49,21 @@ module _ (b c : List ℕ) where
   -- Demand 1, but for what is part of every function's proof: that it ends, and uses only what it was lent.
   pub record Demand1 : Type 0 where
     -- What passes tests 1 to 8 has a sound shape, and nothing else has; a refusal of these tests is the first of them that fits.
-    pub shape_sound_is : (h : Header) → (shape_of b ≡ shape.Sound h) ↔ SoundShape b h
-    pub shape_refusal_is : (n k : ℕ) → (shape_of b ≡ shape.Refused (refusal n k)) ↔ FirstFits (shape_tests b (header_of b)) n k
+    pub shape_sound_is : (h : Header) → (shape_of b ≡ Ok h) ↔ SoundShape b h
+    pub shape_refusal_is : (n k : ℕ) → (shape_of b ≡ Err (refusal n k)) ↔ FirstFits (shape_tests b (header_of b)) n k
     -- The start test: a start, or 22 at the lowest unfit state.
-    pub start : CallSays (start_of b c) started.Refused (λ P.
-        ((start_of b c ≡ started.Start) ↔ Start P c)
-        × ((s : ℕ) → (start_of b c ≡ started.Refused (refusal 22 s)) ↔ LowestUnfit P s))
+    pub start : CallSays (start_of b c) Err (λ P.
+        ((start_of b c ≡ Ok tt) ↔ Start P c)
+        × ((s : ℕ) → (start_of b c ≡ Err (refusal 22 s)) ↔ LowestUnfit P s))
     -- The number of pairs of workers that could make the meeting of rule r (OfPairs says more of it), or 23 at the number given.
-    pub can_act : (r : ℕ) → CallSays (pairs_of b c r) paired.Refused (λ P.
-        (r < P.rules → pairs_of b c r ≡ paired.Number (pairs P c r))
-        × (P.rules ≤ r → pairs_of b c r ≡ paired.Refused (refusal 23 r)))
-    pub standstill : CallSays (terminal_of b c) answer.Refused (λ P. terminal_of b c ≡ answer.Is (terminal P c))
+    pub can_act : (r : ℕ) → CallSays (pairs_of b c r) Err (λ P.
+        (r < P.rules → pairs_of b c r ≡ Ok (pairs P c r))
+        × (P.rules ≤ r → pairs_of b c r ≡ Err (refusal 23 r)))
+    pub standstill : CallSays (terminal_of b c) Err (λ P. terminal_of b c ≡ Ok (terminal P c))
     -- The verdict v just where all occupied states have it, else mixed.
-    pub verdict : CallSays (verdict_of b c) shown.Refused (λ P.
-        ((v : Bool) → (verdict_of b c ≡ shown.Agreed v) ↔ Shows P v c)
-        × ((verdict_of b c ≡ shown.Mixed) ↔ ((v : Bool) → Shows P v c → ⊥)))
+    pub verdict : CallSays (verdict_of b c) Err (λ P.
+        ((v : Bool) → (verdict_of b c ≡ Ok (Some v)) ↔ Shows P v c)
+        × ((verdict_of b c ≡ Ok None) ↔ ((v : Bool) → Shows P v c → ⊥)))
     -- A step: its meeting, 23 where its number names no rule, 24 where the rule cannot act.
     pub of_step : (r : ℕ) → CallSays (reply_of b c (step r)) pass_back (λ P.
         (fires P c r ≡ true → reply_of b c (step r) ≡ stepped)
@@ -124,27 +118,27 @@ module _ (b : List ℕ) (h : Header) where
 
 -- The check accepts b.
 abbrev pub IsAccepted : List ℕ → Type 0
-IsAccepted b = (f : Summary) × (check_of b ≡ Accepted f)
+IsAccepted b = (f : Summary) × (check_of b ≡ Ok f)
 
 -- Demand 2.
 pub record Demand2 (b : List ℕ) : Type 0 where
   -- A docket is accepted if it keeps every rule, and not otherwise.
   pub exact : IsAccepted b ↔ ((h : Header) × Rules b h)
   -- What is said of a docket that keeps every rule is its summary, S R L N W M.
-  pub summary : (h : Header) → Rules b h → check_of b ≡ Accepted (summary_of h.sizes (sections_of b h))
+  pub summary : (h : Header) → Rules b h → check_of b ≡ Ok (summary_of h.sizes (sections_of b h))
   -- A docket that is refused does not keep every rule.
-  pub refusals : (n k : ℕ) → check_of b ≡ Refused (refusal n k) → (h : Header) → Rules b h → ⊥
+  pub refusals : (n k : ℕ) → check_of b ≡ Err (refusal n k) → (h : Header) → Rules b h → ⊥
   -- A refusal is given just where it is the first of tests 1 to 11, with 14, that fits, or where none of these fits and
   -- the walk gives it.
   pub refusal_is : (n k : ℕ) → let h = header_of b in
-      (check_of b ≡ Refused (refusal n k))
+      (check_of b ≡ Err (refusal n k))
       ↔ (FirstFits (tests_in b h) n k ⊎ (Passes (tests_in b h) × TreeFails (protocol_in b h) (assumed b h) (tree_in b h) n k))
   -- The handover test is exact: it passes just where no group breaks the handover.
   pub handover_exact : (h : Header) → SoundShape b h → let P = protocol_in b h in let L = layers_in b h in
       (handover P L ≡ true) ↔ ((s : ℕ) → s < h.sizes.rules → Broken P L s → ⊥)
   -- A refusal by 10 points at the lowest rule at which some group breaks the handover.
-  pub handover_broken : (s : ℕ) → check_of b ≡ Refused (refusal 10 s) → let h = header_of b in Broken (protocol_in b h) (layers_in b h) s
-  pub handover_lowest : (s : ℕ) → check_of b ≡ Refused (refusal 10 s) → let h = header_of b in
+  pub handover_broken : (s : ℕ) → check_of b ≡ Err (refusal 10 s) → let h = header_of b in Broken (protocol_in b h) (layers_in b h) s
+  pub handover_lowest : (s : ℕ) → check_of b ≡ Err (refusal 10 s) → let h = header_of b in
       (u : ℕ) → u < s → Broken (protocol_in b h) (layers_in b h) u → ⊥
   -- The protocol of a docket that keeps every rule has a certificate, and the docket's own ladder passes; that its own tree
   -- stands is in Rules.
@@ -195,7 +189,7 @@ module _ (b : List ℕ) (h : Header) (c : List ℕ) where
     pub one_output : OneOutput P c (after P c)
     pub calls_one_output : OneOutput P c (last_on b c)
     pub calls_verdict : Start P c → admitted P c ≡ true
-        → (v : Bool) × ((xs : List Call) → terminal P (last_on b c xs) ≡ true → verdict_of b (last_on b c xs) ≡ shown.Agreed v)
+        → (v : Bool) × ((xs : List Call) → terminal P (last_on b c xs) ≡ true → verdict_of b (last_on b c xs) ≡ Ok (Some v))
     pub of_calls : CallsOn
 
 -- ---- What C sees
@@ -203,20 +197,20 @@ module _ (b : List ℕ) (h : Header) (c : List ℕ) where
 -- 0 for accepted or not refused; else a number that tells the refusal's number and place.
 pub record CodesTell (b c : List ℕ) : Type 0 where
   pub check : (check_code (check_of b) ≡ 0) ↔ IsAccepted b
-  pub start : (start_code (start_of b c) ≡ 0) ↔ (start_of b c ≡ started.Start)
-  pub can_act : (r : ℕ) → (pairs_code (pairs_of b c r) ≡ 0) ↔ ((n : ℕ) × (pairs_of b c r ≡ paired.Number n))
-  pub standstill : (yes_no_code (terminal_of b c) ≡ 0) ↔ ((t : Bool) × (terminal_of b c ≡ answer.Is t))
-  pub verdict : (verdict_code (verdict_of b c) ≡ 0) ↔ ((r : Refusal) → verdict_of b c ≡ shown.Refused r → ⊥)
+  pub start : (answer_code (start_of b c) ≡ 0) ↔ (start_of b c ≡ Ok tt)
+  pub can_act : (r : ℕ) → (answer_code (pairs_of b c r) ≡ 0) ↔ ((n : ℕ) × (pairs_of b c r ≡ Ok n))
+  pub standstill : (answer_code (terminal_of b c) ≡ 0) ↔ ((t : Bool) × (terminal_of b c ≡ Ok t))
+  pub verdict : (answer_code (verdict_of b c) ≡ 0) ↔ ((r : Refusal) → verdict_of b c ≡ Err r → ⊥)
   pub of_call : (x : Call) → (reply_code (reply_of b c x) ≡ 0) ↔ ((n k : ℕ) → reply_of b c x ≡ refused n k → ⊥)
   -- The place of a refusal of the check is below 65,536, so the code tells number and place.
-  pub check_place : (n k : ℕ) → check_of b ≡ Refused (refusal n k) → k < 65536
+  pub check_place : (n k : ℕ) → check_of b ≡ Err (refusal n k) → k < 65536
   pub check_tells : (n k m j : ℕ) → k < 65536 → j < 65536 → code (refusal n k) ≡ code (refusal m j) → (n ≡ m) × (k ≡ j)
   -- The place of a refusal of another call is below 65,536 too, or it is the number that the call was given, which in C has 32
   -- bits.
-  pub start_place : (n k : ℕ) → start_of b c ≡ started.Refused (refusal n k) → k < 65536
-  pub can_act_place : (r n k : ℕ) → pairs_of b c r ≡ paired.Refused (refusal n k) → (k < 65536) ⊎ (k ≡ r)
-  pub standstill_place : (n k : ℕ) → terminal_of b c ≡ answer.Refused (refusal n k) → k < 65536
-  pub verdict_place : (n k : ℕ) → verdict_of b c ≡ shown.Refused (refusal n k) → k < 65536
+  pub start_place : (n k : ℕ) → start_of b c ≡ Err (refusal n k) → k < 65536
+  pub can_act_place : (r n k : ℕ) → pairs_of b c r ≡ Err (refusal n k) → (k < 65536) ⊎ (k ≡ r)
+  pub standstill_place : (n k : ℕ) → terminal_of b c ≡ Err (refusal n k) → k < 65536
+  pub verdict_place : (n k : ℕ) → verdict_of b c ≡ Err (refusal n k) → k < 65536
   pub call_place : (x : Call) (n k : ℕ) → reply_of b c x ≡ refused n k → (k < 65536) ⊎ (x ≡ step k)
   pub call_tells : (n k m j : ℕ) → k < 4294967296 → j < 4294967296 → call_code (refusal n k) ≡ call_code (refusal m j) → (n ≡ m) × (k ≡ j)
 
@@ -235,7 +229,7 @@ pub record OfDocket (b : List ℕ) : Type 0 where
   -- Calls on a docket that is not accepted: where it passes tests 1 to 8 they make lists all the same; where it does not, all
   -- are refused with the number and place of the check.
   pub calls_on_sound : (h : Header) → SoundShape b h → (c : List ℕ) → CallsOn b h c
-  pub calls_on_others : (n k : ℕ) → shape_of b ≡ shape.Refused (refusal n k) → (c : List ℕ)
+  pub calls_on_others : (n k : ℕ) → shape_of b ≡ Err (refusal n k) → (c : List ℕ)
       → AllRefused c (reply_of b) (last_on b c) (reported_on b c) n k
   -- The protocol of an accepted docket is well specified: in the class WS³ of the paper, with starts for its initial
   -- configurations, and so in WS². Its Layered Termination is by the docket's own layers.

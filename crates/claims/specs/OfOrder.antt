@@ -1,6 +1,7 @@
 -- What is proved of the order of rules (document 02, Job 5), in which the rules of every docket of version 2 stand that passes
 -- tests 1 to 8. Statements only; proofs/OfOrder/ proves them.
-use Rattle.std.specs.Prelude.{◌≡◌, true, false, ◌↔◌, ◌⊎◌, ℕ, suc, ◌<◌, take}
+use Rattle.refusals.specs.Refusal.{refusal}
+use Rattle.std.specs.Prelude.{◌≡◌, true, false, ◌↔◌, ◌⊎◌, ℕ, suc, ◌<◌, take, Err}
 use mathlib.Core.List.{List, Lex}
 use Rattle.theory.specs.Judge.{Test, Passes}
 use Rattle.theory.specs.Protocol.{enabled}
@@ -8,11 +9,9 @@ use Rattle.theory.specs.Machine.{Uses}
 use Rattle.format.specs.Format.{header_of, sections_of, rule_of, rule_key, rule_before, protocol_in, layers_in}
 use Rattle.format.specs.declared.Header.{Header}
 use Rattle.format.specs.declared.Rule.{Rule}
-use Rattle.shape.specs.Shape.{refusal, shape_tests, shape_of}
+use Rattle.shape.specs.Shape.{shape_tests, shape_of}
 use Rattle.shape.specs.Sound.{InOrder, SoundShape}
-use Rattle.shape.specs.declared.Shape.TheVariants.{Refused}
 use Rattle.checker.specs.Check.{check_of}
-use Rattle.checker.specs.declared.Checked.TheVariants as checked
 
 -- Rule r of the bytes b with header h: its four states and its layer.
 abbrev pub rule_in : List ℕ → Header → ℕ → Rule
@@ -61,12 +60,12 @@ pub record OfOrder : Type 0 where
   -- Tests 1 to 8 say 14 just where tests 1 to 7 pass and the version is 2, at the first rule that does not come after the one
   -- before it; and the check says it just where they do.
   pub refusal_14 : (b : List ℕ) (k : ℕ) → let h = header_of b in
-      (shape_of b ≡ Refused (refusal 14 k))
+      (shape_of b ≡ Err (refusal 14 k))
       ↔ (Passes (earlier_tests b h) × (h.sizes.version ≡ 2) × ((e : ℕ) × (k ≡ suc e) × FirstNotAfter h.sizes.rules (sections_of b h).rules e))
-  pub check_14 : (b : List ℕ) (k : ℕ) → (check_of b ≡ checked.Refused (refusal 14 k)) ↔ (shape_of b ≡ Refused (refusal 14 k))
+  pub check_14 : (b : List ℕ) (k : ℕ) → (check_of b ≡ Err (refusal 14 k)) ↔ (shape_of b ≡ Err (refusal 14 k))
   -- Where tests 1 to 6 pass and a rule is equal to an earlier one in all four states, whatever the layers, 7 is said.
   pub equal_is_7 : (b : List ℕ) → let h = header_of b in
       Passes (take 6 (shape_tests b h)) → (e r : ℕ) → e < r → r < h.sizes.rules → SameStates (rule_in b h e) (rule_in b h r)
-      → (k : ℕ) × (shape_of b ≡ Refused (refusal 7 k))
+      → (k : ℕ) × (shape_of b ≡ Err (refusal 7 k))
   -- Of any rules there is a first that does not come after the one before it, or they stand in order.
   pub in_order_or_not : (n : ℕ) (rules : List ℕ) → InOrder n rules ⊎ ((e : ℕ) × FirstNotAfter n rules e)

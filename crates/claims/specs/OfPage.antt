@@ -1,7 +1,8 @@
 -- What is proved of the call that runs the groups of a page (document 02, Job 8), for every docket with bytes b, counts c, limit
 -- and results r as they are lent. Statements only; proofs/OfPage/ proves them. The contracts of the code say that the call answers
 -- page_of b c r, and leaves counts_after_page b c limit r and results_after_page b c limit r.
-use Rattle.std.specs.Prelude.{◌≡◌, Bool, true, false, List, [], ◌∷◌, ◌++◌, map, ◌↔◌, ℕ, ◌+◌, ◌*◌, ◌/◌, ◌%◌, ◌≤◌, ◌<◌, eqb, length, get_or}
+use Rattle.refusals.specs.Refusal.{Refusal, refusal}
+use Rattle.std.specs.Prelude.{◌≡◌, Bool, true, false, List, [], ◌∷◌, ◌++◌, map, ◌↔◌, ℕ, ◌+◌, ◌*◌, ◌/◌, ◌%◌, ◌≤◌, ◌<◌, eqb, length, get_or, Ok, Err, Some}
 use Rattle.theory.specs.Bool.{bit}
 use Rattle.theory.specs.Judge.{Test, Passes, FirstFits}
 use Rattle.theory.specs.Protocol.{size, terminal, Start}
@@ -10,15 +11,11 @@ use Rattle.theory.specs.Machine.{Call, run, Reply, ran, refused, is_within, admi
 use Rattle.theory.specs.Claims.{Rests, OneOutput}
 use Rattle.format.specs.Format.{header_of, protocol_in, layers_in, weight_in}
 use Rattle.format.specs.declared.Header.{Header}
-use Rattle.shape.specs.Shape.{refusal, shape_tests, shape_of}
+use Rattle.shape.specs.Shape.{shape_tests, shape_of}
 use Rattle.shape.specs.Sound.{SoundShape}
-use Rattle.shape.specs.declared.Refusal.{Refusal}
-use Rattle.shape.specs.declared.Shape.TheVariants as shape
 use Rattle.machine.specs.Calls.{verdict_of, reply_of, counts_of}
-use Rattle.machine.specs.declared.Verdict.TheVariants.{Agreed}
 use Rattle.page.specs.Page.{part_at, result_of, page_tests, page_of, counts_after_page, results_after_page}
-use Rattle.page.specs.declared.Paged.TheVariants.{Done, Refused}
-use Rattle.codes.specs.Codes.{page_code}
+use Rattle.codes.specs.Codes.{answer_code}
 use Rattle.claims.specs.OfDocket.{IsAccepted, last_on, reported_on}
 
 -- How many groups the counts c have where the header is h, and group g of them, from 0 on.
@@ -49,20 +46,20 @@ module _ (b c r : List ℕ) where
   -- What the call answers.
   pub record PageAnswers : Type 0 where
     -- Done just where all tests pass; else the refusal that is the first to fit.
-    pub done_is : (page_of b c r ≡ Done) ↔ Passes tests_of_page
-    pub refusal_is : (n k : ℕ) → (page_of b c r ≡ Refused (refusal n k)) ↔ FirstFits tests_of_page n k
+    pub done_is : (page_of b c r ≡ Ok tt) ↔ Passes tests_of_page
+    pub refusal_is : (n k : ℕ) → (page_of b c r ≡ Err (refusal n k)) ↔ FirstFits tests_of_page n k
     -- A refusal of tests 1 to 8 is passed back.
-    pub passed_back : (q : Refusal) → shape_of b ≡ shape.Refused q → page_of b c r ≡ Refused q
+    pub passed_back : (q : Refusal) → shape_of b ≡ Err q → page_of b c r ≡ Err q
     -- On a docket that passes them, 32 just where the counts are no whole number of groups, or none; 33 just where they are, and
     -- the results are not two numbers for each group; else the call is done.
-    pub refusal_32 : (h : Header) → SoundShape b h → (page_of b c r ≡ Refused (refusal 32 0)) ↔ ((g : ℕ) → AreGroups h c g → ⊥)
-    pub refusal_33 : (h : Header) → SoundShape b h → (page_of b c r ≡ Refused (refusal 33 0)) ↔ ((g : ℕ) × AreGroups h c g × (length r ≡ 2 * g → ⊥))
-    pub done_in_words : (h : Header) → SoundShape b h → (page_of b c r ≡ Done) ↔ ((g : ℕ) × AreGroups h c g × (length r ≡ 2 * g))
+    pub refusal_32 : (h : Header) → SoundShape b h → (page_of b c r ≡ Err (refusal 32 0)) ↔ ((g : ℕ) → AreGroups h c g → ⊥)
+    pub refusal_33 : (h : Header) → SoundShape b h → (page_of b c r ≡ Err (refusal 33 0)) ↔ ((g : ℕ) × AreGroups h c g × (length r ≡ 2 * g → ⊥))
+    pub done_in_words : (h : Header) → SoundShape b h → (page_of b c r ≡ Ok tt) ↔ ((g : ℕ) × AreGroups h c g × (length r ≡ 2 * g))
     -- A refused call leaves both buffers as they were.
-    pub unchanged : (q : Refusal) (limit : ℕ) → page_of b c r ≡ Refused q → (counts_after_page b c limit r ≡ c) × (results_after_page b c limit r ≡ r)
+    pub unchanged : (q : Refusal) (limit : ℕ) → page_of b c r ≡ Err q → (counts_after_page b c limit r ≡ c) × (results_after_page b c limit r ≡ r)
     -- In C: 0 just where the call is done. The place of a refusal is below 65,536, so the code tells number and place.
-    pub code : (page_code (page_of b c r) ≡ 0) ↔ (page_of b c r ≡ Done)
-    pub place : (n k : ℕ) → page_of b c r ≡ Refused (refusal n k) → k < 65536
+    pub code : (answer_code (page_of b c r) ≡ 0) ↔ (page_of b c r ≡ Ok tt)
+    pub place : (n k : ℕ) → page_of b c r ≡ Err (refusal n k) → k < 65536
 
 -- ---- What a call that is done leaves, on a docket with header h
 
@@ -142,22 +139,22 @@ module _ (b : List ℕ) (h : Header) (c r : List ℕ) (g : ℕ) where
 -- every place and whatever the limits. So a group may be taken from one page to another between calls.
 pub record StartOutput (b : List ℕ) (h : Header) (x : List ℕ) : Type 0 where
   pub output : Bool
-  pub on_pages : (xs : List Call) (c r : List ℕ) (g : ℕ) (limits : List ℕ) → page_of b c r ≡ Done → g < groups_in h c → group_in h c g ≡ last_on b x xs
-      → terminal (protocol_in b h) (group_after b h c r g limits) ≡ true → verdict_of b (group_after b h c r g limits) ≡ Agreed output
-  pub by_calls : (xs : List Call) → terminal (protocol_in b h) (last_on b x xs) ≡ true → verdict_of b (last_on b x xs) ≡ Agreed output
+  pub on_pages : (xs : List Call) (c r : List ℕ) (g : ℕ) (limits : List ℕ) → page_of b c r ≡ Ok tt → g < groups_in h c → group_in h c g ≡ last_on b x xs
+      → terminal (protocol_in b h) (group_after b h c r g limits) ≡ true → verdict_of b (group_after b h c r g limits) ≡ Ok (Some output)
+  pub by_calls : (xs : List Call) → terminal (protocol_in b h) (last_on b x xs) ≡ true → verdict_of b (last_on b x xs) ≡ Ok (Some output)
 
 -- The claims about pages.
 pub record OfPage : Type 0 where
   pub answers : (b c r : List ℕ) → PageAnswers b c r
-  pub runs : (b : List ℕ) (h : Header) → SoundShape b h → (c : List ℕ) (limit : ℕ) (r : List ℕ) → page_of b c r ≡ Done → PageRuns b h c limit r
+  pub runs : (b : List ℕ) (h : Header) → SoundShape b h → (c : List ℕ) (limit : ℕ) (r : List ℕ) → page_of b c r ≡ Ok tt → PageRuns b h c limit r
   -- A call that is done is done again, with any limit, on what it left.
-  pub again : (b c r : List ℕ) (limit : ℕ) → page_of b c r ≡ Done → page_of b (counts_after_page b c limit r) (results_after_page b c limit r) ≡ Done
+  pub again : (b c r : List ℕ) (limit : ℕ) → page_of b c r ≡ Ok tt → page_of b (counts_after_page b c limit r) (results_after_page b c limit r) ≡ Ok tt
   -- What the results hold before the call does not matter, only how many there are.
   pub old_results : (b c r r' : List ℕ) (limit : ℕ) → length r' ≡ length r
       → (page_of b c r' ≡ page_of b c r) × (counts_after_page b c limit r' ≡ counts_after_page b c limit r)
-      × (page_of b c r ≡ Done → results_after_page b c limit r' ≡ results_after_page b c limit r)
-  pub in_a_row : (b : List ℕ) (h : Header) → SoundShape b h → (c r : List ℕ) → page_of b c r ≡ Done → (g : ℕ) → g < groups_in h c → PagesAreRuns b h c r g
-  pub settles : (b : List ℕ) → IsAccepted b → (c r : List ℕ) → page_of b c r ≡ Done
+      × (page_of b c r ≡ Ok tt → results_after_page b c limit r' ≡ results_after_page b c limit r)
+  pub in_a_row : (b : List ℕ) (h : Header) → SoundShape b h → (c r : List ℕ) → page_of b c r ≡ Ok tt → (g : ℕ) → g < groups_in h c → PagesAreRuns b h c r g
+  pub settles : (b : List ℕ) → IsAccepted b → (c r : List ℕ) → page_of b c r ≡ Ok tt
       → (g : ℕ) → g < groups_in (header_of b) c → PagesSettle b (header_of b) c r g
   pub start_output : (b : List ℕ) → IsAccepted b → (x : List ℕ) → Start (protocol_in b (header_of b)) x → admitted (protocol_in b (header_of b)) x ≡ true
       → StartOutput b (header_of b) x

@@ -1,6 +1,7 @@
 -- What is proved of claim sheets (document 02, Job 10), for every docket with bytes b and every sheet with bytes y. Statements only;
 -- proofs/OfSheet/ proves them. The contract of the code says that the check of a docket with its sheet answers check_sheet_of b y.
-use Rattle.std.specs.Prelude.{◌≡◌, true, false, cond, List, ◌↔◌, ◌⊎◌, ℕ, ◌+◌, ◌*◌, ◌≤◌, ◌<◌, length, get_or, ltb, ℤ, pos, ◌-ℤ◌, ◌≤ℤ◌, ◌<ℤ◌}
+use Rattle.refusals.specs.Refusal.{Refusal, refusal}
+use Rattle.std.specs.Prelude.{◌≡◌, true, false, cond, List, ◌↔◌, ◌⊎◌, ℕ, ◌+◌, ◌*◌, ◌≤◌, ◌<◌, length, get_or, ltb, ℤ, pos, ◌-ℤ◌, ◌≤ℤ◌, ◌<ℤ◌, Ok, Err, Some}
 use Rattle.theory.specs.Protocol.{Protocol, terminal, Shows, Start, after}
 use Rattle.theory.specs.Facts.{Facts}
 use Rattle.theory.specs.Leaf.{signed}
@@ -11,17 +12,12 @@ use Rattle.theory.specs.Sheet.{Sheet, at_least, at_most, counterexample, number_
 use Rattle.theory.specs.Claims.{ReachesPotentially}
 use Rattle.format.specs.Bytes.{le16, le32}
 use Rattle.format.specs.Format.{header_of, protocol_in, biased}
-use Rattle.shape.specs.Shape.{refusal}
-use Rattle.shape.specs.declared.Refusal.{Refusal}
 use Rattle.checker.specs.Check.{check_of}
-use Rattle.checker.specs.declared.Checked.TheVariants as checked
 use Rattle.machine.specs.Calls.{verdict_of}
-use Rattle.machine.specs.declared.Verdict.TheVariants as shown
 use Rattle.sheetshape.specs.SheetShape.{sheet_header}
 use Rattle.sheetshape.specs.declared.SheetHeader.{SheetHeader}
 use Rattle.sheet.specs.Sheet.{sheet_in, check_sheet_of}
-use Rattle.sheet.specs.declared.SheetChecked.TheVariants.{Accepted, Refused}
-use Rattle.codes.specs.Codes.{code, sheet_code}
+use Rattle.codes.specs.Codes.{code, check_code}
 use Rattle.claims.specs.OfDocket.{IsAccepted, number16, last_on}
 
 -- Every member is a byte.
@@ -86,7 +82,7 @@ module _ (b y : List ℕ) where
   -- ---- Acceptance
 
   abbrev pub IsSheetAccepted : Type 0
-  IsSheetAccepted = check_sheet_of b y ≡ Accepted
+  IsSheetAccepted = check_sheet_of b y ≡ Ok tt
 
   -- What the two trees refute: a sum of at least c and an end with a state of output 0; a sum of at most c - 1 and an end with a state
   -- of output 1.
@@ -126,9 +122,9 @@ module _ (b y : List ℕ) where
     -- Every list of step and run calls that ends at a standstill; the verdict call then says so.
     pub calls : (xs : List Call) → terminal P (last_on b c xs) ≡ true → Decided c (last_on b c xs)
     pub verdict_1 : admitted P c ≡ true → limit_of Z ≤ℤ weighed_sum P Z c → (xs : List Call) → terminal P (last_on b c xs) ≡ true
-        → verdict_of b (last_on b c xs) ≡ shown.Agreed true
+        → verdict_of b (last_on b c xs) ≡ Ok (Some true)
     pub verdict_0 : admitted P c ≡ true → weighed_sum P Z c <ℤ limit_of Z → (xs : List Call) → terminal P (last_on b c xs) ≡ true
-        → verdict_of b (last_on b c xs) ≡ shown.Agreed false
+        → verdict_of b (last_on b c xs) ≡ Ok (Some false)
     -- And every standstill that is potentially reachable (Definition 4.9 of the paper).
     pub potentially : (d : List ℕ) → ReachesPotentially P c d → terminal P d ≡ true → Decided c d
     -- One of the two cases holds.
@@ -138,21 +134,21 @@ module _ (b y : List ℕ) where
 
   pub record SheetRefusals : Type 0 where
     -- A refusal of the docket's check is passed back; 15, 0 just where the docket is accepted and a rule of the sheet's bytes is broken.
-    pub passed_back : (r : Refusal) → check_of b ≡ checked.Refused r → check_sheet_of b y ≡ Refused r
-    pub refusal_15 : (check_sheet_of b y ≡ Refused (refusal 15 0)) ↔ (IsAccepted b × (SheetSound → ⊥))
+    pub passed_back : (r : Refusal) → check_of b ≡ Err r → check_sheet_of b y ≡ Err r
+    pub refusal_15 : (check_sheet_of b y ≡ Err (refusal 15 0)) ↔ (IsAccepted b × (SheetSound → ⊥))
     -- With an accepted docket and sound bytes: the first tree's refusal; or, where the first tree stands, the second's, its nodes numbered
     -- on from the first's.
-    pub refusal_is : IsAccepted b → SheetSound → (n k : ℕ) → (check_sheet_of b y ≡ Refused (refusal n k))
+    pub refusal_is : IsAccepted b → SheetSound → (n k : ℕ) → (check_sheet_of b y ≡ Err (refusal n k))
         ↔ (TreeFails P assumed₁ Z.first n k
         ⊎ (TreeStands P assumed₁ Z.first × ((j : ℕ) × TreeFails P assumed₂ Z.second n j × (k ≡ K.first + j))))
     -- There is no other refusal; 12 and 13 are the only numbers of the trees, and their place is at most the number of all nodes.
-    pub refusals : (r : Refusal) → check_sheet_of b y ≡ Refused r → (check_of b ≡ checked.Refused r) ⊎ (r ≡ refusal 15 0)
+    pub refusals : (r : Refusal) → check_sheet_of b y ≡ Err r → (check_of b ≡ Err r) ⊎ (r ≡ refusal 15 0)
         ⊎ (IsAccepted b × SheetSound × ((r.number ≡ 12) ⊎ (r.number ≡ 13)) × (r.place ≤ K.first + K.second))
 
   -- What C sees: 0 just for accepted, and the place of every refusal is below 65,536, so the code tells number and place.
   pub record SheetCodes : Type 0 where
-    pub accepted : (sheet_code (check_sheet_of b y) ≡ 0) ↔ IsSheetAccepted
-    pub refused : (r : Refusal) → check_sheet_of b y ≡ Refused r → (sheet_code (check_sheet_of b y) ≡ code r) × (r.place < 65536)
+    pub accepted : (check_code (check_sheet_of b y) ≡ 0) ↔ IsSheetAccepted
+    pub refused : (r : Refusal) → check_sheet_of b y ≡ Err r → (check_code (check_sheet_of b y) ≡ code r) × (r.place < 65536)
 
 -- The claims about claim sheets.
 pub record OfSheet : Type 0 where

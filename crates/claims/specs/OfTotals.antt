@@ -1,6 +1,7 @@
 -- What is proved of the sheet of exact totals (document 02, Job 9), for every docket with bytes b and every n. Statements only;
 -- proofs/OfTotals/ proves them. The contract of the code says that the call answers sheet_of b n; what the program prints of it is tested.
-use Rattle.std.specs.Prelude.{◌≡◌, Bool, true, false, List, map, ◌↔◌, ◌⊎◌, ℕ, suc, ◌+◌, ◌-◌, ◌*◌, ◌≤◌, ◌<◌, length, take, drop, replicate}
+use Rattle.refusals.specs.Refusal.{Refusal, refusal}
+use Rattle.std.specs.Prelude.{◌≡◌, Bool, true, false, List, map, ◌↔◌, ◌⊎◌, ℕ, suc, ◌+◌, ◌-◌, ◌*◌, ◌≤◌, ◌<◌, length, take, drop, replicate, Ok, Err}
 use Rattle.std.specs.Bool.{beq}
 use Rattle.theory.specs.Bool.{bit}
 use Rattle.theory.specs.Below.{sum_below}
@@ -9,13 +10,9 @@ use Rattle.theory.specs.Ladder.{Layers, spreads}
 use Rattle.theory.specs.Starts.{binomial, inputs_of, fixed_total, starts, start_at}
 use Rattle.theory.specs.Machine.{run, admitted, run_numbers, rest_numbers, rest_of}
 use Rattle.format.specs.Format.{header_of, protocol_in, layers_in, weight_in}
-use Rattle.shape.specs.Shape.{refusal}
-use Rattle.shape.specs.declared.Refusal.{Refusal}
 use Rattle.checker.specs.Check.{check_of}
-use Rattle.checker.specs.declared.Checked.TheVariants as checked
 use Rattle.totals.specs.Totals.{steps_to_rest, rests_on, Allowed, sheet_of}
 use Rattle.totals.specs.declared.Totals.{Totals}
-use Rattle.totals.specs.declared.Tallied.TheVariants.{Counted, Refused}
 use Rattle.claims.specs.OfDocket.{IsAccepted, last_on, reported_on}
 
 -- ---- The starts
@@ -50,13 +47,13 @@ module _ (b : List ℕ) where
   pub record SheetAnswers (n : ℕ) : Type 0 where
     -- The totals just where the docket is accepted, at most eight states are inputs and n is 2 to 12; a refusal of the check is passed
     -- back; 34 just where the docket is accepted and the rest is not so.
-    pub counted_is : ((t : Totals) × ((sheet_of b n).tallied ≡ Counted t)) ↔ (IsAccepted b × Allowed P n)
-    pub passed_back : (r : Refusal) → check_of b ≡ checked.Refused r → (sheet_of b n).tallied ≡ Refused r
-    pub refusal_34 : ((sheet_of b n).tallied ≡ Refused (refusal 34 0)) ↔ (IsAccepted b × (Allowed P n → ⊥))
+    pub counted_is : ((t : Totals) × ((sheet_of b n).tallied ≡ Ok t)) ↔ (IsAccepted b × Allowed P n)
+    pub passed_back : (r : Refusal) → check_of b ≡ Err r → (sheet_of b n).tallied ≡ Err r
+    pub refusal_34 : ((sheet_of b n).tallied ≡ Err (refusal 34 0)) ↔ (IsAccepted b × (Allowed P n → ⊥))
     -- There is no other refusal.
-    pub refusals : (r : Refusal) → (sheet_of b n).tallied ≡ Refused r → (check_of b ≡ checked.Refused r) ⊎ (r ≡ refusal 34 0)
+    pub refusals : (r : Refusal) → (sheet_of b n).tallied ≡ Err r → (check_of b ≡ Err r) ⊎ (r ≡ refusal 34 0)
     -- A refused sheet shows no counts.
-    pub no_counts : (r : Refusal) → (sheet_of b n).tallied ≡ Refused r → (sheet_of b n).first ≡ replicate 64 0
+    pub no_counts : (r : Refusal) → (sheet_of b n).tallied ≡ Err r → (sheet_of b n).first ≡ replicate 64 0
 
   -- ---- What is counted
 
@@ -106,4 +103,4 @@ module _ (b : List ℕ) where
 pub record OfTotals : Type 0 where
   pub starts_are : (P : Protocol) (n : ℕ) → 2 ≤ n → StartsAre P n
   pub answers : (b : List ℕ) (n : ℕ) → SheetAnswers b n
-  pub totals_are : (b : List ℕ) (n : ℕ) (t : Totals) → (sheet_of b n).tallied ≡ Counted t → TotalsAre b n t (sheet_of b n).first
+  pub totals_are : (b : List ℕ) (n : ℕ) (t : Totals) → (sheet_of b n).tallied ≡ Ok t → TotalsAre b n t (sheet_of b n).first

@@ -1,13 +1,13 @@
 -- What is proved of the two versions (document 02, Jobs 4 and 5): a docket of version 1 that passes tests 1 to 8, rewritten in
 -- version 2 with no fixed workers, is answered alike where its rules stand in order, and else refused with 14. Statements only;
 -- proofs/OfVersions/ proves them.
-use Rattle.std.specs.Prelude.{◌≡◌, List, [], ◌∷◌, ℕ, suc, ◌+◌, ◌*◌, length}
+use Rattle.refusals.specs.Refusal.{refusal}
+use Rattle.std.specs.Prelude.{◌≡◌, List, [], ◌∷◌, ℕ, suc, ◌+◌, ◌*◌, length, Err}
 use Rattle.theory.specs.Machine.{Call}
 use Rattle.format.specs.Format.{header_of, sections, sections_of}
 use Rattle.format.specs.declared.Header.{Header}
-use Rattle.shape.specs.Shape.{refusal, shape_of}
+use Rattle.shape.specs.Shape.{shape_of}
 use Rattle.shape.specs.Sound.{InOrder, SoundShape}
-use Rattle.shape.specs.declared.Shape.TheVariants.{Refused}
 use Rattle.checker.specs.Check.{check_of}
 use Rattle.machine.specs.Calls.{start_of, pairs_of, terminal_of, verdict_of, reply_of, counts_of}
 use Rattle.writer.specs.Write.{docket_of}
@@ -42,4 +42,4 @@ pub record OfVersions : Type 0 where
       → Alike b (in_version2 b h)
   -- Where they do not, it is refused with 14, at the first that does not come after the one before it.
   pub out_of_order : (b : List ℕ) (h : Header) → SoundShape b h → h.sizes.version ≡ 1 → (e : ℕ)
-      → FirstNotAfter h.sizes.rules (sections_of b h).rules e → shape_of (in_version2 b h) ≡ Refused (refusal 14 (suc e))
+      → FirstNotAfter h.sizes.rules (sections_of b h).rules e → shape_of (in_version2 b h) ≡ Err (refusal 14 (suc e))

@@ -1,12 +1,18 @@
 -- What the functions on lent counts answer, beside theory's own definitions.
-use Rattle.std.specs.Prelude.{Bool, true, false, cond, ◌&&◌, List, ℕ, ◌-◌, ◌≤◌, ltb, eqb, length}
-use Rattle.theory.specs.Protocol.{count}
-use Rattle.theory.specs.Machine.{is_within}
+use Rattle.std.specs.Prelude.{Bool, true, false, cond, ◌&&◌, List, ℕ, ◌-◌, ◌≤◌, ltb, eqb, length, Option, Some, None, Result, Ok, Err}
+use Rattle.theory.specs.Protocol.{Protocol, count}
+use Rattle.theory.specs.Ladder.{Layers}
+use Rattle.theory.specs.Machine.{is_within, chosen}
+use Rattle.refusals.specs.Refusal.{Refusal, refusal}
 pub mod Laws
 
--- The number of the refusal of counts c where there are n states, 20 or 21, or 0 for counts that pass both.
-unfoldable pub counts_fault : ℕ → List ℕ → ℕ
-counts_fault n c = cond (eqb (length c) n) (cond (is_within c) 0 21) 20
+-- What the tests 20 and 21 find of counts c where there are n states.
+unfoldable pub counts_test : ℕ → List ℕ → Result (Unit {0}) Refusal
+counts_test n c = cond (eqb (length c) n) (cond (is_within c) (Ok tt) (Err (refusal 21 0))) (Err (refusal 20 0))
+
+-- The rule that a run uses, if there is one: theory's `chosen` is the number of rules where there is none.
+unfoldable pub chosen_of : Protocol → Layers → List ℕ → Option ℕ
+chosen_of P L c = cond (ltb (chosen P L c) P.rules) (Some (chosen P L c)) None
 
 -- How many agents in q an agent in p could meet: all, or, where p = q, all but itself; 0 where no agent is in p.
 unfoldable pub partners_of : List ℕ → ℕ → ℕ → ℕ

@@ -3,58 +3,39 @@
 // protocol the states section is lent; only for unfit states it is read.
 #![tactic(auto)]
 
-ghost use Rattle.std.specs.Prelude.{◌≡◌, [], ◌≤◌, get_or};
+ghost use Rattle.std.specs.Prelude.{◌≡◌, [], ◌≤◌, ◌<◌, length, get_or};
 ghost use Rattle.theory.specs.Bool.{member};
-ghost use Rattle.theory.specs.Below.{sum_below};
 ghost use Rattle.theory.specs.Protocol.{size, lose as loseOf, gain as gainOf, enabled as enabledOf, fire as fireOf, unfit};
 ghost use Rattle.theory.specs.Pairs.{pairs_between, pairs as pairs_of};
-ghost use Rattle.theory.specs.Machine.{chosen};
 ghost use Rattle.bits.specs.Code.{among_of};
 ghost use Rattle.format.specs.Format.{protocol_of, layers_of};
-ghost use Rattle.counts.specs.Code.{counts_fault, partners_of, pair_enabled, is_occupied, Most};
+ghost use Rattle.counts.specs.Code.{counts_test, chosen_of, partners_of, pair_enabled, is_occupied, Most};
 
 use format::Sizes;
+use refusals::{Fault, Refusal};
 
 // The count of state s, 0 past the end.
 pub fn count(counts: &[u32], s: usize) -> u32
     ensures { result ≡ get_or counts.now s 0 }
 {
-    if s < counts.len() {
-        return counts[s];
-    }
-    0
+    counts.get(s).copied().unwrap_or(0)
 }
 
-// The sum of the counts of the states below n. It cannot wrap.
-fn total(counts: &[u32], n: u16) -> u64
-    ensures { result ≡ sum_below n (λ s. get_or counts.now s 0) }
+// The sum of the counts. It cannot wrap.
+fn total(counts: &[u32]) -> u64
+    requires { length counts.now < 65536 }
+    ensures { result ≡ size counts.now }
 {
-    let mut sum: u64 = 0;
-    let mut i: u16 = 0;
-    while i < n {
-        let here = count(counts, i as usize);
-        sum += here as u64;
-        i += 1;
-    }
-    sum
+    counts.iter().map(|n| u64::from(*n)).sum()
 }
 
-// Refusals 20 and 21: the number, or 0 for counts that pass both.
-pub fn counts_fault(counts: &[u32], z: Sizes) -> u32
-    ensures { result ≡ counts_fault z.states counts.now }
+// Tests 20 and 21.
+pub fn counts_fault(counts: &[u32], z: Sizes) -> Result<(), Refusal>
+    ensures { result ≡ counts_test z.states counts.now }
 {
-    let unlike = counts.len() != (z.states as usize);
-    if unlike {
-        return 20;
-    }
-    let n = total(counts, z.states);
-    if n < 2 {
-        return 21;
-    }
-    if 1000000 < n {
-        return 21;
-    }
-    0
+    Fault::Unlike.when(counts.len() != usize::from(z.states))?;
+    let n = total(counts);
+    Fault::Group.when(!(2..=1000000).contains(&n))
 }
 
 // How many agents in q an agent in p could meet: all, or, where p = q, all but itself. 0 where no agent is in p.
@@ -65,8 +46,7 @@ fn partners(counts: &[u32], p: usize, q: usize) -> u32
     if held < 1 {
         return 0;
     }
-    let same = p == q;
-    if same {
+    if p == q {
         return held - 1;
     }
     count(counts, q)
@@ -77,12 +57,8 @@ fn partners(counts: &[u32], p: usize, q: usize) -> u32
 fn pairs_between(counts: &[u32], p: usize, q: usize) -> u64
     ensures { result ≡ pairs_between counts.now p q }
 {
-    let met = (count(counts, p) as u64) * (partners(counts, p, q) as u64);
-    let same = p == q;
-    if same {
-        return met / 2;
-    }
-    met
+    let met = u64::from(count(counts, p)) * u64::from(partners(counts, p, q));
+    if p == q { met / 2 } else { met }
 }
 
 // Whether p and q each hold an agent, or, where p = q, at least two: whether the number of pairs is not 0 (`enabled-pairs` of theory).
@@ -112,10 +88,9 @@ pub fn enabled(states: &[u8], rules: &[u8], z: Sizes, counts: &[u32], r: u16) ->
 fn lose(counts: &mut [u32], s: usize)
     ensures { counts.new ≡ loseOf counts.old s }
 {
+    // By its index: of a slice that `get_mut` lent, a proof knows the length alone.
     if s < counts.len() {
-        if 0 < counts[s] {
-            counts[s] -= 1;
-        }
+        counts[s] = counts[s].saturating_sub(1);
     }
 }
 
@@ -124,6 +99,7 @@ fn gain(counts: &mut [u32], s: usize)
     requires { Most 1000001 counts.old }
     ensures { counts.new ≡ gainOf counts.old s }
 {
+    // By its index, as in `lose`.
     if s < counts.len() {
         counts[s] += 1;
     }
@@ -156,27 +132,24 @@ pub fn fire(states: &[u8], rules: &[u8], z: Sizes, counts: &mut [u32], r: u16)
     put(counts, t.p2, t.q2);
 }
 
-// The rule that a run uses: the lowest enabled rule of the lowest layer that has one; the number of rules where none is
-// enabled.
-pub fn choose(states: &[u8], rules: &[u8], z: Sizes, counts: &[u32]) -> u16
-    ensures { result ≡ chosen (protocol_of z states.now rules.now) (layers_of z rules.now) counts.now }
+// The rule that a run uses: the lowest enabled rule of the lowest layer that has one, where one is enabled.
+pub fn choose(states: &[u8], rules: &[u8], z: Sizes, counts: &[u32]) -> Option<u16>
+    ensures { result ≡ chosen_of (protocol_of z states.now rules.now) (layers_of z rules.now) counts.now }
 {
-    let mut best = z.rules;
-    let mut low = (z.layers as usize) + 1;
-    let mut r: u16 = 0;
-    while r < z.rules {
+    let mut best = None;
+    let mut low = usize::from(z.layers) + 1;
+    for r in 0..z.rules {
         let l = format::rule_layer(rules, r);
         if l < low {
             let t = format::read_rule(rules, r);
             if pair_enabled(counts, t.p, t.q) {
+                best = Some(r);
                 if l == 0 {
-                    return r;
+                    return best;
                 }
-                best = r;
                 low = l;
             }
         }
-        r += 1;
     }
     best
 }
@@ -185,8 +158,8 @@ pub fn choose(states: &[u8], rules: &[u8], z: Sizes, counts: &[u32]) -> u16
 fn is_unfit(states: &[u8], z: Sizes, counts: &[u32], s: u16) -> bool
     ensures { result ≡ unfit (protocol_of z states.now []) counts.now s }
 {
-    let held = count(counts, s as usize);
-    let fixed = format::fixed_agents(states, z, s) as u32;
+    let held = count(counts, usize::from(s));
+    let fixed = u32::from(format::fixed_agents(states, z, s));
     if format::is_input(states, z, s) {
         return held < fixed;
     }
@@ -197,31 +170,19 @@ fn is_unfit(states: &[u8], z: Sizes, counts: &[u32], s: u16) -> bool
 pub fn unfit_states(states: &[u8], z: Sizes, counts: &[u32]) -> u64
     ensures { member result ≡ among_of z.states (unfit (protocol_of z states.now []) counts.now) }
 {
-    let mut set: u64 = 0;
-    let mut i: u16 = 0;
-    while i < z.states {
-        set = bits::with_if(set, is_unfit(states, z, counts, i), i as usize);
-        i += 1;
-    }
-    set
+    bits::among(z.states, |s| is_unfit(states, z, counts, s))
 }
 
 // Whether state s holds an agent.
 fn is_occupied(counts: &[u32], s: u16) -> bool
     ensures { result ≡ is_occupied counts.now s }
 {
-    0 < count(counts, s as usize)
+    0 < count(counts, usize::from(s))
 }
 
 // The states below n that hold an agent, as a word.
 pub fn occupied(counts: &[u32], n: u16) -> u64
     ensures { member result ≡ among_of n (is_occupied counts.now) }
 {
-    let mut set: u64 = 0;
-    let mut i: u16 = 0;
-    while i < n {
-        set = bits::with_if(set, is_occupied(counts, i), i as usize);
-        i += 1;
-    }
-    set
+    bits::among(n, |s| is_occupied(counts, s))
 }

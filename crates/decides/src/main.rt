@@ -7,7 +7,6 @@
 
 ghost use Rattle.std.specs.Prelude.{◌≡◌, ◌≤◌, ◌+◌, ◌-◌, length, IfOk};
 
-use sheet::SheetChecked;
 use std::io;
 use std::io::{Print, Read};
 
@@ -40,12 +39,10 @@ fn print_signed(rt: &impl Print, number: u32, bias: u32) -> io::Result<u64>
 fn print_numbers(rt: &impl Print, numbers: &[u8], n: u16) -> io::Result<u16>
     ensures { IfOk result (λ k. k ≡ n) }
 {
-    let mut s: u16 = 0;
-    while s < n {
+    for s in 0..n {
         print_signed(rt, threshold::sheet_number(numbers, s), 32768)?;
-        s += 1;
     }
-    Ok(s)
+    Ok(n)
 }
 
 // Reads the docket's length, the docket and the sheet, and answers how many bytes of each there are.
@@ -72,7 +69,7 @@ fn main(rt: HostRuntime) -> io::Result<()> {
         return eprintln!(rt; "decides: standard input cannot be read");
     };
     match sheet::check_sheet(&docket[..docket_end], &sheet[..sheet_end]) {
-        SheetChecked::Accepted => {
+        Ok(()) => {
             let header = sheetshape::read_sheet_header(&sheet[..sheet_end]);
             let numbers = sheetshape::numbers_section(&sheet[..sheet_end], header);
             print!(rt; "accepted")?;
@@ -80,6 +77,6 @@ fn main(rt: HostRuntime) -> io::Result<()> {
             print_signed(&rt, sheet::sheet_limit(numbers, header.states), 2147483648)?;
             println!(rt)
         }
-        SheetChecked::Refused(r) => println!(rt; "refused {} {}", r.number, r.place),
+        Err(r) => println!(rt; "{r}"),
     }
 }

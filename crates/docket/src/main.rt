@@ -4,7 +4,6 @@
 // 1, 0.
 #![tactic(auto)]
 
-use checker::Checked;
 use std::io;
 
 fn main(rt: HostRuntime) -> io::Result<()> {
@@ -13,12 +12,12 @@ fn main(rt: HostRuntime) -> io::Result<()> {
         return eprintln!(rt; "docket: standard input cannot be read");
     };
     match checker::check(&buffer[..n]) {
-        Checked::Accepted(f) => {
+        Ok(f) => {
             println!(rt;
                 "accepted {} {} {} {} {} {}",
                 f.states, f.rules, f.layers, f.nodes, f.spreads, f.widest
             )
         }
-        Checked::Refused(r) => println!(rt; "refused {} {}", r.number, r.place),
+        Err(r) => println!(rt; "{r}"),
     }
 }

@@ -1,34 +1,36 @@
 -- What the words of the struct Facts say: the facts of document 01, "The tree".
-use Rattle.std.specs.Prelude.{Bool, false, not, cond, ◌&&◌, ◌||◌, List, [], ◌∷◌, ℕ, eqb, ltb, get_or}
+use Rattle.std.specs.Prelude.{Bool, false, not, cond, ◌&&◌, ◌||◌, List, map, ℕ, ◌-◌, eqb, leb, ltb, get_or}
 use Rattle.theory.specs.Bool.{member}
 use Rattle.theory.specs.Facts as theory
 use Rattle.bits.specs.Code.{full_of, in_words}
 use Rattle.facts.specs.declared.Facts.{Facts}
 pub mod Laws
 
--- Of three words that of party k: the start's, that of run 1 or its end, that of run 2; 0 where there is no such party.
-unfoldable pub of_party : ℕ → ℕ → ℕ → ℕ → ℕ
-of_party x y z k = cond (eqb k 0) x (cond (eqb k 1) y (cond (eqb k 2) z 0))
+-- Of words for the parties from b on, that of party k; 0 where it has none.
+unfoldable pub word_of : ℕ → List ℕ → ℕ → ℕ
+word_of b ws k = cond (leb b k) (get_or ws (k - b) 0) 0
+
+-- Of n words, party k has one.
+unfoldable pub has_word : ℕ → ℕ → ℕ → Bool
+has_word b n k = leb b k && ltb (k - b) n
+
+-- The sets in the words.
+unfoldable pub sets_of : ℕ → List ℕ → ℕ → ℕ → Bool
+sets_of b ws k = member (word_of b ws k)
 
 -- Party k is an end, and so has a run.
 unfoldable pub is_end : ℕ → Bool
 is_end k = ltb 0 k && ltb k 3
 
 -- The sets of states at each party and at each end, and the sets of rules in each run.
-unfoldable pub states_at : List ℕ → ℕ → ℕ → Bool
-states_at ws k = member (of_party (get_or ws 0 0) (get_or ws 1 0) (get_or ws 2 0) k)
+abbrev pub states_at : List ℕ → ℕ → ℕ → Bool
+states_at ws = sets_of 0 ws
 
-unfoldable pub states_at_end : List ℕ → ℕ → ℕ → Bool
-states_at_end ws k = member (of_party 0 (get_or ws 0 0) (get_or ws 1 0) k)
+abbrev pub states_at_end : List ℕ → ℕ → ℕ → Bool
+states_at_end ws = sets_of 1 ws
 
-unfoldable pub rules_of_run : List ℕ → ℕ → ℕ → Bool
-rules_of_run ws k =
-    in_words
-    (of_party 0 (get_or ws 0 0) (get_or ws 4 0) k
-    ∷ of_party 0 (get_or ws 1 0) (get_or ws 5 0) k
-    ∷ of_party 0 (get_or ws 2 0) (get_or ws 6 0) k
-    ∷ of_party 0 (get_or ws 3 0) (get_or ws 7 0) k
-    ∷ [])
+unfoldable pub rules_of_run : List (List ℕ) → ℕ → ℕ → Bool
+rules_of_run ws k = in_words (map (λ w. word_of 1 w k) ws)
 
 -- The facts that the words stand for.
 abbrev pub facts_of : Facts → theory.Facts

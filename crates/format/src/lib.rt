@@ -2,7 +2,7 @@
 // Every function is total: past the end of a slice a byte reads as 0. Everywhere h is a header and z its sizes.
 #![tactic(auto)]
 
-ghost use Rattle.std.specs.Prelude.{◌≡◌, ◌+◌, ◌*◌, min, max, get_or};
+ghost use Rattle.std.specs.Prelude.{◌≡◌, ◌<◌, ℕ, ◌+◌, ◌*◌, min, max, get_or, drop};
 ghost use Rattle.theory.specs.Bool.{member};
 ghost use Rattle.bits.specs.Code.{among_of};
 ghost use Rattle.format.specs.Bytes.{le16, le32, le64, section as sectionOf};
@@ -10,6 +10,8 @@ ghost use Rattle.format.specs.Format.{header_of, state_width, states_length, rul
 ghost use Rattle.format.specs.Format.{rule_p, rule_q, rule_of, rule_p', rule_q', rule_layer, rule_before, layer_weight};
 ghost use Rattle.format.specs.Format.{node_kind, node_party, node_argument, node_set, leaf_bits, biased};
 ghost use Rattle.format.specs.Code.{Value, has_flag};
+
+use std::array;
 
 // The version, and how many records each section has.
 #[derive(Clone, Copy)]
@@ -39,14 +41,14 @@ pub struct Header {
     pub at: Offsets,
 }
 
-// One rule: before pair p, q, after pair p2, q2, layer.
-#[derive(Clone, Copy)]
+// One rule: its layer, before pair p, q and after pair p2, q2. Rules are in order by these numbers, from the first on.
+#[derive(Clone, Copy, PartialEq, Eq, PartialOrd, Ord)]
 pub struct Rule {
+    pub layer: usize,
     pub p: usize,
     pub q: usize,
     pub p2: usize,
     pub q2: usize,
-    pub layer: usize,
 }
 
 // What a state may have: output 1, the mark of an input, fixed agents.
@@ -57,132 +59,101 @@ pub enum Flag {
     Fixed,
 }
 
-fn wide(x: u8) -> usize
-    ensures { Value 256 x result }
-{
-    x as usize
-}
-
 // The byte at k.
 fn byte(b: &[u8], k: usize) -> usize
     ensures { Value 256 (get_or b.now k 0) result }
 {
-    if k < b.len() {
-        return wide(b[k]);
+    usize::from(b.get(k).copied().unwrap_or(0))
+}
+
+// The bytes from byte k on.
+fn tail(b: &[u8], k: usize) -> &[u8]
+    ensures { result.now ≡ drop k b.now }
+{
+    &b[k.min(b.len())..]
+}
+
+// The N bytes from byte k on; past the end they are 0.
+fn bytes<const N: usize>(b: &[u8], k: usize) -> [u8; N]
+    ensures { (i : ℕ) → i < N → get_or result i 0 ≡ get_or b.now (k + i) 0 }
+{
+    let part = b.get(k..k.saturating_add(N)).unwrap_or(&[]);
+    if let Some(all) = part.first_chunk() {
+        return *all;
     }
-    0
+    let rest = tail(b, k);
+    array::from_fn(|i| rest.get(i).copied().unwrap_or(0))
 }
 
 // The 16-bit number at k.
 pub fn read16(b: &[u8], k: usize) -> u16
     ensures { result ≡ le16 b.now k }
 {
-    let len = b.len();
-    if len < 2 {
-        return byte(b, k) as u16;
-    }
-    if len - 2 < k {
-        return byte(b, k) as u16;
-    }
-    let v = wide(b[k]) + 256 * wide(b[k + 1]);
-    v as u16
+    u16::from_le_bytes(bytes(b, k))
 }
 
-// The 32-bit number at k, from its two halves.
-fn read_halves(b: &[u8], k: usize) -> u32
-    ensures { result ≡ le32 b.now k }
-{
-    if k < b.len() {
-        let low = read16(b, k);
-        let high = read16(b, k + 2);
-        return (low as u32) + 65536 * (high as u32);
-    }
-    0
-}
-
-// The 32-bit number at k. Where all four bytes are there, they are read at once.
+// The 32-bit number at k.
 pub fn read32(b: &[u8], k: usize) -> u32
     ensures { result ≡ le32 b.now k }
 {
-    let len = b.len();
-    if len < 4 {
-        return read_halves(b, k);
-    }
-    if len - 4 < k {
-        return read_halves(b, k);
-    }
-    let low = wide(b[k]) + 256 * wide(b[k + 1]);
-    let high = wide(b[k + 2]) + 256 * wide(b[k + 3]);
-    (low + 65536 * high) as u32
+    u32::from_le_bytes(bytes(b, k))
 }
 
 // The 64-bit number at k.
 fn read64(b: &[u8], k: usize) -> u64
     ensures { result ≡ le64 b.now k }
 {
-    if k < b.len() {
-        let low = read32(b, k);
-        let high = read32(b, k + 4);
-        return (low as u64) + 4294967296 * (high as u64);
-    }
-    0
+    u64::from_le_bytes(bytes(b, k))
 }
 
 // The n bytes from byte k on, or as many as there are.
 pub fn section(b: &[u8], k: usize, n: usize) -> &[u8]
     ensures { result.now ≡ sectionOf b.now k n }
 {
-    let len = b.len();
-    if len <= k {
-        return &b[len..len];
-    }
-    let rest = len - k;
-    if rest <= n {
-        return &b[k..len];
-    }
-    let end = k + n;
-    &b[k..end]
+    let rest = tail(b, k);
+    &rest[..n.min(rest.len())]
 }
 
 // A product that cannot wrap.
 pub fn product(a: u16, b: u16) -> usize
     ensures { Value 4294967296 (a * b) result }
 {
-    (a as usize) * (b as usize)
+    usize::from(a) * usize::from(b)
 }
 
 // The lesser and the greater of two numbers.
 pub fn lesser(a: u32, b: u32) -> u32
     ensures { result ≡ min a b }
 {
-    if a < b { a } else { b }
+    a.min(b)
 }
 
 pub fn greater(a: u32, b: u32) -> u32
     ensures { result ≡ max a b }
 {
-    if a < b { b } else { a }
+    a.max(b)
 }
 
 // The header of the bytes b.
 pub fn read_header(b: &[u8]) -> Header
     ensures { result ≡ header_of b.now }
 {
+    let head: [u8; 24] = bytes(b, 0);
     let sizes = Sizes {
-        version: read16(b, 0),
-        states: read16(b, 2),
-        rules: read16(b, 4),
-        layers: read16(b, 6),
-        nodes: read16(b, 8),
-        leaves: read16(b, 10),
+        version: read16(&head, 0),
+        states: read16(&head, 2),
+        rules: read16(&head, 4),
+        layers: read16(&head, 6),
+        nodes: read16(&head, 8),
+        leaves: read16(&head, 10),
     };
     let at = Offsets {
-        states: read16(b, 12),
-        rules: read16(b, 14),
-        layers: read16(b, 16),
-        nodes: read16(b, 18),
-        leaves: read16(b, 20),
-        total: read16(b, 22),
+        states: read16(&head, 12),
+        rules: read16(&head, 14),
+        layers: read16(&head, 16),
+        nodes: read16(&head, 18),
+        leaves: read16(&head, 20),
+        total: read16(&head, 22),
     };
     Header { sizes, at }
 }
@@ -201,20 +172,20 @@ fn state_width(version: u16) -> usize
 pub fn states_length(z: Sizes) -> usize
     ensures { Value 262144 (states_length z) result }
 {
-    state_width(z.version) * (z.states as usize)
+    state_width(z.version) * usize::from(z.states)
 }
 
 // The bytes of each section.
 pub fn states_section(b: &[u8], h: Header) -> &[u8]
     ensures { result.now ≡ sectionOf b.now h.at.states (states_length h.sizes) }
 {
-    section(b, h.at.states as usize, states_length(h.sizes))
+    section(b, usize::from(h.at.states), states_length(h.sizes))
 }
 
 pub fn rules_section(b: &[u8], h: Header) -> &[u8]
     ensures { result.now ≡ sectionOf b.now h.at.rules (rules_length h.sizes) }
 {
-    section(b, h.at.rules as usize, 5 * (h.sizes.rules as usize))
+    section(b, usize::from(h.at.rules), 5 * usize::from(h.sizes.rules))
 }
 
 pub fn layers_section(b: &[u8], h: Header) -> &[u8]
@@ -222,7 +193,7 @@ pub fn layers_section(b: &[u8], h: Header) -> &[u8]
 {
     section(
         b,
-        h.at.layers as usize,
+        usize::from(h.at.layers),
         4 * product(h.sizes.layers, h.sizes.states),
     )
 }
@@ -230,7 +201,7 @@ pub fn layers_section(b: &[u8], h: Header) -> &[u8]
 pub fn nodes_section(b: &[u8], h: Header) -> &[u8]
     ensures { result.now ≡ sectionOf b.now h.at.nodes (nodes_length h.sizes) }
 {
-    section(b, h.at.nodes as usize, 12 * (h.sizes.nodes as usize))
+    section(b, usize::from(h.at.nodes), 12 * usize::from(h.sizes.nodes))
 }
 
 pub fn leaves_section(b: &[u8], h: Header) -> &[u8]
@@ -238,7 +209,7 @@ pub fn leaves_section(b: &[u8], h: Header) -> &[u8]
 {
     section(
         b,
-        h.at.leaves as usize,
+        usize::from(h.at.leaves),
         4 * product(h.sizes.leaves, h.sizes.states),
     )
 }
@@ -247,14 +218,14 @@ pub fn leaves_section(b: &[u8], h: Header) -> &[u8]
 pub fn state_flags(states: &[u8], z: Sizes, s: u16) -> usize
     ensures { Value 256 (flags z states.now s) result }
 {
-    byte(states, state_width(z.version) * (s as usize))
+    byte(states, state_width(z.version) * usize::from(s))
 }
 
 pub fn fixed_agents(states: &[u8], z: Sizes, s: u16) -> u16
     ensures { result ≡ fixed_of z states.now s }
 {
     if z.version == 2 {
-        return read16(states, 3 * (s as usize) + 1);
+        return read16(states, 3 * usize::from(s) + 1);
     }
     0
 }
@@ -280,35 +251,20 @@ fn has_flag(states: &[u8], z: Sizes, f: Flag, s: u16) -> bool
 pub fn flag_set(states: &[u8], z: Sizes, f: Flag) -> u64
     ensures { member result ≡ among_of z.states (has_flag z states.now f) }
 {
-    let mut set: u64 = 0;
-    let mut i: u16 = 0;
-    while i < z.states {
-        set = bits::with_if(set, has_flag(states, z, f, i), i as usize);
-        i += 1;
-    }
-    set
+    bits::among(z.states, |s| has_flag(states, z, f, s))
 }
 
 // Rule r, all of it.
 pub fn read_rule(rules: &[u8], r: u16) -> Rule
     ensures { result ≡ rule_of rules.now r }
 {
-    let at = 5 * (r as usize);
-    if at + 4 < rules.len() {
-        return Rule {
-            p: wide(rules[at]),
-            q: wide(rules[at + 1]),
-            p2: wide(rules[at + 2]),
-            q2: wide(rules[at + 3]),
-            layer: wide(rules[at + 4]),
-        };
-    }
+    let [p, q, p2, q2, layer]: [u8; 5] = bytes(rules, 5 * usize::from(r));
     Rule {
-        p: byte(rules, at),
-        q: byte(rules, at + 1),
-        p2: byte(rules, at + 2),
-        q2: byte(rules, at + 3),
-        layer: byte(rules, at + 4),
+        p: usize::from(p),
+        q: usize::from(q),
+        p2: usize::from(p2),
+        q2: usize::from(q2),
+        layer: usize::from(layer),
     }
 }
 
@@ -316,90 +272,78 @@ pub fn read_rule(rules: &[u8], r: u16) -> Rule
 pub fn rule_before(x: Rule, y: Rule) -> bool
     ensures { result ≡ rule_before x y }
 {
-    if x.layer != y.layer {
-        return x.layer < y.layer;
-    }
-    if x.p != y.p {
-        return x.p < y.p;
-    }
-    if x.q != y.q {
-        return x.q < y.q;
-    }
-    if x.p2 != y.p2 {
-        return x.p2 < y.p2;
-    }
-    x.q2 < y.q2
+    x < y
 }
 
 // Rule r by its fields: the before pair p, q.
 pub fn rule_p(rules: &[u8], r: u16) -> usize
     ensures { Value 256 (rule_p rules.now r) result }
 {
-    byte(rules, 5 * (r as usize))
+    byte(rules, 5 * usize::from(r))
 }
 
 pub fn rule_q(rules: &[u8], r: u16) -> usize
     ensures { Value 256 (rule_q rules.now r) result }
 {
-    byte(rules, 5 * (r as usize) + 1)
+    byte(rules, 5 * usize::from(r) + 1)
 }
 
 // The after pair p', q'.
 pub fn rule_p_after(rules: &[u8], r: u16) -> usize
     ensures { Value 256 (rule_p' rules.now r) result }
 {
-    byte(rules, 5 * (r as usize) + 2)
+    byte(rules, 5 * usize::from(r) + 2)
 }
 
 pub fn rule_q_after(rules: &[u8], r: u16) -> usize
     ensures { Value 256 (rule_q' rules.now r) result }
 {
-    byte(rules, 5 * (r as usize) + 3)
+    byte(rules, 5 * usize::from(r) + 3)
 }
 
 pub fn rule_layer(rules: &[u8], r: u16) -> usize
     ensures { Value 256 (rule_layer rules.now r) result }
 {
-    byte(rules, 5 * (r as usize) + 4)
+    byte(rules, 5 * usize::from(r) + 4)
 }
 
 // Layer l's weight of state s, where there are n states.
 pub fn layer_weight(layers: &[u8], n: u16, l: u16, s: u16) -> u32
     ensures { result ≡ layer_weight n layers.now l s }
 {
-    read32(layers, 4 * (product(l, n) + (s as usize)))
+    read32(layers, 4 * (product(l, n) + usize::from(s)))
 }
 
 // Node i: its kind, party, argument and set.
 pub fn node_kind(nodes: &[u8], i: u16) -> usize
     ensures { Value 256 (node_kind nodes.now i) result }
 {
-    byte(nodes, 12 * (i as usize))
+    byte(nodes, 12 * usize::from(i))
 }
 
 pub fn node_party(nodes: &[u8], i: u16) -> usize
     ensures { Value 256 (node_party nodes.now i) result }
 {
-    byte(nodes, 12 * (i as usize) + 1)
+    byte(nodes, 12 * usize::from(i) + 1)
 }
 
 pub fn node_argument(nodes: &[u8], i: u16) -> u16
     ensures { result ≡ node_argument nodes.now i }
 {
-    read16(nodes, 12 * (i as usize) + 2)
+    read16(nodes, 12 * usize::from(i) + 2)
 }
 
 pub fn node_set(nodes: &[u8], i: u16) -> u64
     ensures { result ≡ node_set nodes.now i }
 {
-    read64(nodes, 12 * (i as usize) + 4)
+    read64(nodes, 12 * usize::from(i) + 4)
 }
 
 // Leaf l's weight of state s at end 1 (e is 0) or 2 (e is 1), plus 10,000, where there are n states.
 pub fn leaf_weight(leaves: &[u8], n: u16, l: u16, e: u16, s: u16) -> u32
     ensures { Value 65536 (biased (leaf_bits n leaves.now l e s)) result }
 {
-    let at = 2 * (2 * product(l, n) + product(e, n) + (s as usize));
+    let at = 2 * (2 * product(l, n) + product(e, n) + usize::from(s));
     let bits = read16(leaves, at);
-    ((bits as u32) + 10000) % 65536
+    (u32::from(bits) + 10000) % 65536
 }

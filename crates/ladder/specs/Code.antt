@@ -1,45 +1,39 @@
 -- What the functions of the lowering and handover tests answer, beside theory's own definitions.
-use Rattle.std.specs.Prelude.{Bool, cond, not, ◌&&◌, List, ℕ, ◌+◌, ◌*◌, ◌<◌, leb, ltb, eqb, length}
+use Rattle.std.specs.Prelude.{Bool, false, cond, not, ◌&&◌, List, ℕ, ◌+◌, ◌*◌, ◌<◌, leb, ltb, eqb, length, Option, Some, None}
 use Rattle.theory.specs.Bool.{imp, bit}
 use Rattle.theory.specs.Below.{any_below}
-use Rattle.theory.specs.Protocol.{Protocol}
-use Rattle.theory.specs.Ladder.{Layers, is_lower, fits}
-use Rattle.format.specs.Format.{rule_p, rule_q, rule_layer}
+use Rattle.format.specs.Format.{rule_p, rule_q, rule_layer, rule_of}
 use Rattle.format.specs.declared.Rule.{Rule}
 use Rattle.ladder.specs.declared.PreSequence.{PreSequence}
 pub mod Laws
-
-module _ (P : Protocol) (L : Layers) where
-  -- Rule v is of a lower layer than s, and its before pair is inside the pre-sequence of s and u.
-  unfoldable pub fitting : ℕ → ℕ → ℕ → Bool
-  fitting s u v = is_lower L v s && fits P s u v
-
-  -- Rule u is of a lower layer than s, and no rule is fitting: handover fails at s.
-  unfoldable pub uncovered : ℕ → ℕ → Bool
-  uncovered s u = not (imp (is_lower L u s) (any_below P.rules (fitting s u)))
 
 -- How often the state x stands in the pair a, b.
 abbrev pub in_pair : ℕ → ℕ → ℕ → ℕ
 in_pair a b x = bit (eqb a x) + bit (eqb b x)
 
--- The state x where it stands fewer than k times in the pair a, b, and n where it does not.
-abbrev pub beyond_of : ℕ → ℕ → ℕ → ℕ → ℕ → ℕ
-beyond_of n a b x k = cond (ltb (in_pair a b x) k) x n
+-- The state x, if it stands fewer than k times in the pair a, b.
+abbrev pub beyond_of : ℕ → ℕ → ℕ → ℕ → Option ℕ
+beyond_of a b x k = cond (ltb (in_pair a b x) k) (Some x) None
 
--- The pre-sequence of the rules s and u, of n states. Of the before pair of u, p is left where it is not in the after pair
--- of s, and q where it stands there less often than in the before pair of u.
-abbrev pub pre_sequence_of : ℕ → Rule → Rule → PreSequence
-pre_sequence_of n s u =
+-- The pre-sequence of the rules s and u. Of the before pair of u, p is left where it is not in the after pair of s, and q
+-- where it stands there less often than in the before pair of u.
+abbrev pub pre_sequence_of : Rule → Rule → PreSequence
+pre_sequence_of s u =
     record {
       first = s.p;
       second = s.q;
-      third = beyond_of n s.p2 s.q2 u.p 1;
-      fourth = beyond_of n s.p2 s.q2 u.q (in_pair u.p u.q u.q);
+      third = beyond_of s.p2 s.q2 u.p 1;
+      fourth = beyond_of s.p2 s.q2 u.q (in_pair u.p u.q u.q);
     }
+
+-- The state x is there, and is the one given.
+abbrev pub is_there : Option ℕ → ℕ → Bool
+is_there (Some y) x = eqb y x
+is_there None x = false
 
 -- How many agents of state x j has.
 abbrev pub held_of : PreSequence → ℕ → ℕ
-held_of j x = in_pair j.first j.second x + in_pair j.third j.fourth x
+held_of j x = in_pair j.first j.second x + (bit (is_there j.third x) + bit (is_there j.fourth x))
 
 -- j has as many agents of state x as the pair p, q.
 abbrev pub covers_of : PreSequence → ℕ → ℕ → ℕ → Bool
@@ -52,9 +46,14 @@ fits_in rules l j v =
     let q = rule_q rules v in
     ltb (rule_layer rules v) l && (covers_of j p q p && covers_of j p q q)
 
--- Where the search among n rules for one of a layer below l begins: behind the last where l is 0, below which there is none.
-unfoldable pub first_lower : ℕ → ℕ → ℕ
-first_lower l n = cond (eqb l 0) n 0
+-- Rule u is of no layer below that of s, or one of n rules is, with its before pair covered by the pre-sequence of s and u.
+unfoldable pub covered_in : List ℕ → ℕ → Rule → ℕ → Bool
+covered_in rules n s u =
+    imp (ltb (rule_layer rules u) s.layer) (any_below n (fits_in rules s.layer (pre_sequence_of s (rule_of rules u))))
+
+-- The state given, if it is below 64, and no other.
+abbrev pub single_in : Option ℕ → ℕ → Bool
+single_in a x = ltb x 64 && is_there a x
 
 -- The states below 64 of which j has an agent.
 unfoldable pub states_in : PreSequence → ℕ → Bool

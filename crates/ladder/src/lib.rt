@@ -3,33 +3,35 @@
 // The states are lent because the contracts speak of the docket's protocol; the tests do not read them.
 #![tactic(auto)]
 
-ghost use Rattle.std.specs.Prelude.{◌≡◌, not, ◌+◌};
-ghost use Rattle.theory.specs.Below.{first_below, sum_below};
+ghost use Rattle.std.specs.Prelude.{◌≡◌, not, ◌+◌, ◌<◌};
+ghost use Rattle.theory.specs.Below.{sum_below};
+ghost use Rattle.theory.specs.Below.Ends.{first_where};
 ghost use Rattle.theory.specs.Ladder.{lowers_at, handover_at, spread};
 ghost use Rattle.format.specs.Code.{Value};
 ghost use Rattle.format.specs.Format.{layer_weight, protocol_of, layers_of};
 ghost use Rattle.theory.specs.Bool.{member};
 ghost use Rattle.shape.specs.Code.{SoundRules};
-ghost use Rattle.ladder.specs.Code.{in_pair, beyond_of, pre_sequence_of, covers_of, states_in, SoundPair, fits_in, first_lower};
+ghost use Rattle.ladder.specs.Code.{in_pair, beyond_of, pre_sequence_of, held_of, covers_of, single_in, states_in, SoundPair, fits_in, covered_in};
 
 use format::{Rule, Sizes};
 
-// The agents of a group of at most four, by their states; the number of states stands for no agent.
+// The agents of a group of two to four, by their states.
 #[derive(Clone, Copy)]
 struct PreSequence {
     first: usize,
     second: usize,
-    third: usize,
-    fourth: usize,
+    third: Option<usize>,
+    fourth: Option<usize>,
 }
 
 // ---- Lowering
 
-// The weight of the pair p, q in layer l, of n states.
+// The weight of the pair p, q in layer l, of n states. That of a leaf is another function, as it reads another section.
 fn pair_weight(layers: &[u8], n: u16, l: u16, p: u16, q: u16) -> u64
     ensures { result ≡ layer_weight n layers.now l p + layer_weight n layers.now l q }
 {
-    (format::layer_weight(layers, n, l, p) as u64) + (format::layer_weight(layers, n, l, q) as u64)
+    u64::from(format::layer_weight(layers, n, l, p))
+        + u64::from(format::layer_weight(layers, n, l, q))
 }
 
 // Whether rule r does not lower the weight of its layer.
@@ -47,20 +49,13 @@ fn lowering_fails(states: &[u8], rules: &[u8], layers: &[u8], z: Sizes, r: u16) 
     !(after < before)
 }
 
-// Test 9: the lowest rule at which lowering fails, or the number of rules.
-pub fn lowering_fault(states: &[u8], rules: &[u8], layers: &[u8], z: Sizes) -> u16
+// Test 9: the lowest rule at which lowering fails.
+pub fn lowering_fault(states: &[u8], rules: &[u8], layers: &[u8], z: Sizes) -> Option<u16>
     ensures { let P = protocol_of z states.now rules.now in
         let w = layer_weight z.states layers.now in
-        result ≡ first_below z.rules (λ r. not (lowers_at P (layers_of z rules.now) w r)) }
+        result ≡ first_where z.rules (λ r. not (lowers_at P (layers_of z rules.now) w r)) }
 {
-    let mut r: u16 = 0;
-    while r < z.rules {
-        if lowering_fails(states, rules, layers, z, r) {
-            return r;
-        }
-        r += 1;
-    }
-    r
+    (0..z.rules).find(|&r| lowering_fails(states, rules, layers, z, r))
 }
 
 // ---- Handover
@@ -69,113 +64,120 @@ pub fn lowering_fault(states: &[u8], rules: &[u8], layers: &[u8], z: Sizes) -> u
 fn in_pair(a: usize, b: usize, x: usize) -> usize
     ensures { Value 3 (in_pair a b x) result }
 {
-    ((a == x) as usize) + ((b == x) as usize)
+    usize::from(a == x) + usize::from(b == x)
 }
 
-// The state x where it stands fewer than k times in the pair a, b, and n where it does not.
-fn beyond(n: usize, a: usize, b: usize, x: usize, k: usize) -> usize
-    ensures { result ≡ beyond_of n a b x k }
+// The state x, if it stands fewer than k times in the pair a, b.
+fn beyond(a: usize, b: usize, x: usize, k: usize) -> Option<usize>
+    ensures { result ≡ beyond_of a b x k }
 {
-    if in_pair(a, b, x) < k { x } else { n }
+    if in_pair(a, b, x) < k { Some(x) } else { None }
 }
 
 // The before pair of s, and what the before pair of u has beyond the after pair of s.
-fn pre_sequence(n: usize, s: Rule, u: Rule) -> PreSequence
-    ensures { result ≡ pre_sequence_of n s u }
+fn pre_sequence(s: Rule, u: Rule) -> PreSequence
+    ensures { result ≡ pre_sequence_of s u }
 {
-    let third = beyond(n, s.p2, s.q2, u.p, 1);
-    let fourth = beyond(n, s.p2, s.q2, u.q, in_pair(u.p, u.q, u.q));
     PreSequence {
         first: s.p,
         second: s.q,
-        third,
-        fourth,
+        third: beyond(s.p2, s.q2, u.p, 1),
+        fourth: beyond(s.p2, s.q2, u.q, in_pair(u.p, u.q, u.q)),
     }
+}
+
+// How many agents of state x j has.
+fn held(j: PreSequence, x: usize) -> usize
+    ensures { Value 5 (held_of j x) result }
+{
+    let third = usize::from(j.third == Some(x));
+    let fourth = usize::from(j.fourth == Some(x));
+    in_pair(j.first, j.second, x) + third + fourth
 }
 
 // Whether j has as many agents of state x as the pair p, q.
 fn covers(j: PreSequence, p: usize, q: usize, x: usize) -> bool
     ensures { result ≡ covers_of j p q x }
 {
-    let held = in_pair(j.first, j.second, x) + in_pair(j.third, j.fourth, x);
-    in_pair(p, q, x) <= held
+    in_pair(p, q, x) <= held(j, x)
 }
 
-// The states of j as a set. It may also have the number of states, which stands for no agent.
+// The set with the state given, if one is, and no other.
+fn single_if(a: Option<usize>) -> u64
+    ensures { member result ≡ single_in a }
+{
+    match a {
+        Some(x) => bits::single(x),
+        None => 0,
+    }
+}
+
+// The states of j as a set.
 fn states_of(j: PreSequence) -> u64
     ensures { member result ≡ states_in j }
 {
     let before = bits::union(bits::single(j.first), bits::single(j.second));
-    let left = bits::union(bits::single(j.third), bits::single(j.fourth));
+    let left = bits::union(single_if(j.third), single_if(j.fourth));
     bits::union(before, left)
 }
 
 // Whether rule v is of a layer below this one, with its before pair inside j. Most rules have a state outside the set of
-// the states of j, which is quick to see.
+// the states of j, which is quick to see; so its bytes are read one by one, and not all before the first test.
 fn rule_fits(rules: &[u8], layer: usize, j: PreSequence, set: u64, v: u16) -> bool
     requires sound_pair { SoundPair rules.now v }
     requires set_value { member set ≡ states_in j }
     ensures { result ≡ fits_in rules.now layer j v }
 {
-    let at = 5 * (v as usize);
-    let other = rules[at + 4] as usize;
+    let at = 5 * usize::from(v);
+    let other = usize::from(rules[at + 4]);
     if layer <= other {
         return false;
     }
-    let p = rules[at] as usize;
+    let p = usize::from(rules[at]);
     if !bits::has_below(set, p) {
         return false;
     }
-    let q = rules[at + 1] as usize;
+    let q = usize::from(rules[at + 1]);
     if !bits::has_below(set, q) {
         return false;
     }
-    if covers(j, p, q, p) {
-        return covers(j, p, q, q);
-    }
-    false
+    covers(j, p, q, p) && covers(j, p, q, q)
 }
 
-// Where the search for u begins: at the first rule, and behind the last where the layer is 0, below which there is none.
-fn first_lower(layer: usize, n: u16) -> u16
-    ensures { result ≡ first_lower layer n }
+// Whether rule u is of no layer below that of s, or some rule is, with its before pair inside what s then u need.
+fn covered(rules: &[u8], z: Sizes, s: Rule, u: u16) -> bool
+    requires { SoundRules z rules.now }
+    ensures { result ≡ covered_in rules.now z.rules s u }
 {
-    if layer == 0 { n } else { 0 }
+    let other = format::read_rule(rules, u);
+    let layer = s.layer;
+    if other.layer < layer {
+        let j = pre_sequence(s, other);
+        let set = states_of(j);
+        return (0..z.rules).any(|v| rule_fits(rules, layer, j, set, v));
+    }
+    true
 }
 
-// Test 10: the lowest rule s at which handover fails, or the number of rules.
-pub fn handover_fault(states: &[u8], rules: &[u8], z: Sizes) -> u16
+// Whether handover holds at rule s. Below layer 0 there is no rule to ask about.
+fn hands_over(states: &[u8], rules: &[u8], z: Sizes, s: u16) -> bool
+    requires { SoundRules z rules.now }
+    ensures { result ≡ handover_at (protocol_of z states.now rules.now) (layers_of z rules.now) s }
+{
+    let rule = format::read_rule(rules, s);
+    if rule.layer == 0 {
+        return true;
+    }
+    (0..z.rules).all(|u| covered(rules, z, rule, u))
+}
+
+// Test 10: the lowest rule s at which handover fails.
+pub fn handover_fault(states: &[u8], rules: &[u8], z: Sizes) -> Option<u16>
     requires { SoundRules z rules.now }
     ensures { let P = protocol_of z states.now rules.now in
-        result ≡ first_below z.rules (λ s. not (handover_at P (layers_of z rules.now) s)) }
+        result ≡ first_where z.rules (λ s. not (handover_at P (layers_of z rules.now) s)) }
 {
-    let n = z.states as usize;
-    let mut s: u16 = 0;
-    'test: while s < z.rules {
-        let rule = format::read_rule(rules, s);
-        let layer = rule.layer;
-        let mut u = first_lower(layer, z.rules);
-        while u < z.rules {
-            let other = format::read_rule(rules, u);
-            if other.layer < layer {
-                let j = pre_sequence(n, rule, other);
-                let set = states_of(j);
-                let mut v: u16 = 0;
-                'search: loop {
-                    if v == z.rules {
-                        break 'test;
-                    }
-                    if rule_fits(rules, layer, j, set, v) {
-                        break 'search;
-                    }
-                    v += 1;
-                }
-            }
-            u += 1;
-        }
-        s += 1;
-    }
-    s
+    (0..z.rules).find(|&s| !hands_over(states, rules, z, s))
 }
 
 // ---- Spreads
@@ -186,12 +188,10 @@ fn layer_spread(layers: &[u8], z: Sizes, l: u16) -> u32
 {
     let mut low = format::layer_weight(layers, z.states, l, 0);
     let mut high = low;
-    let mut s: u16 = 0;
-    while s < z.states {
+    for s in 0..z.states {
         let w = format::layer_weight(layers, z.states, l, s);
-        low = format::lesser(low, w);
-        high = format::greater(high, w);
-        s += 1;
+        low = low.min(w);
+        high = high.max(w);
     }
     high - low
 }
@@ -200,12 +200,7 @@ fn layer_spread(layers: &[u8], z: Sizes, l: u16) -> u32
 pub fn spread_sum(layers: &[u8], z: Sizes) -> u64
     ensures { result ≡ sum_below z.layers (λ l. spread z.states (layer_weight z.states layers.now l)) }
 {
-    let mut sum: u64 = 0;
-    let mut l: u16 = 0;
-    while l < z.layers {
-        let d = layer_spread(layers, z, l);
-        sum += d as u64;
-        l += 1;
-    }
-    sum
+    (0..z.layers)
+        .map(|l| u64::from(layer_spread(layers, z, l)))
+        .sum()
 }

@@ -1,7 +1,7 @@
 -- The leaf rule and the remainder rule over the bytes of a docket, in the parts in which the code goes through them.
-use Rattle.std.specs.Prelude.{◌≡◌, Bool, not, cond, ◌||◌, List, [], ℕ, ◌+◌, ◌-◌, ◌%◌, ◌<◌, ltb, eqb}
+use Rattle.std.specs.Prelude.{◌≡◌, Bool, ◌||◌, List, [], ℕ, ◌+◌, ◌-◌, ◌%◌, ◌<◌}
 use Rattle.theory.specs.Bool.{member}
-use Rattle.theory.specs.Below.{all_below, first_below}
+use Rattle.theory.specs.Below.{all_below}
 use Rattle.format.specs.Format.{rule_p, rule_q, rule_p', rule_q', rule_of, end_weight, protocol_of}
 use Rattle.format.specs.declared.Rule.{Rule}
 use Rattle.format.specs.declared.Sizes.{Sizes}
@@ -10,7 +10,6 @@ use Rattle.share.specs.declared.Closing.{Closing}
 use Rattle.share.specs.declared.Fixed.{Fixed}
 use Rattle.share.specs.declared.Known.{Known}
 use Rattle.share.specs.declared.Share.{Share}
-use Rattle.leaf.specs.declared.Change.{Change}
 pub mod Laws
 
 -- x is rule r, and its states are bytes.
@@ -32,32 +31,6 @@ weight_after z rules leaves l e r = end_weight z leaves l e (rule_p' rules r) + 
 -- the same modulo m.
 unfoldable pub keeps : Closing → Sizes → List ℕ → List ℕ → ℕ → ℕ → ℕ → Bool
 keeps by z rules leaves l e r = relates_by by (weight_after z rules leaves l e r) (weight_before z rules leaves l e r)
-
--- Rule r with the weights of its pairs, u being the unused ones of the 64 rules of its word; two zeros where it is one of them.
-unfoldable pub change_at : ℕ → Sizes → List ℕ → List ℕ → ℕ → ℕ → ℕ → Change
-change_at u z rules leaves l e r =
-    cond (member u (r % 64))
-    (record { rule = r; before = 0; after = 0 })
-    (record { rule = r; before = weight_before z rules leaves l e r; after = weight_after z rules leaves l e r })
-
--- The two weights of x differ.
-abbrev pub changes : Change → Bool
-changes x = not (eqb x.before x.after)
-
--- Rule r is not unused, and changes the weight.
-abbrev pub changes_at : ℕ → Sizes → List ℕ → List ℕ → ℕ → ℕ → ℕ → Bool
-changes_at u z rules leaves l e r = changes (change_at u z rules leaves l e r)
-
--- From r on, the first number below n that passes f, or n; r where n is below it.
-unfoldable pub first_from : ℕ → ℕ → (ℕ → Bool) → ℕ
-first_from r n f = r + first_below (n - r) (λ k. f (r + k))
-
--- From r on, the first rule below n that is not unused and changes the weight, with the weights of its pairs; two zeros where
--- there is none.
-unfoldable pub next_change : ℕ → Sizes → List ℕ → List ℕ → ℕ → ℕ → ℕ → ℕ → Change
-next_change u z rules leaves l e r n =
-    let c = first_from r n (changes_at u z rules leaves l e) in
-    cond (ltb c n) (change_at u z rules leaves l e c) (record { rule = c; before = 0; after = 0 })
 
 -- Rule r is unused, u being the unused ones of the 64 rules of its word, or keeps the weight.
 unfoldable pub keeps_in : Closing → ℕ → Sizes → List ℕ → List ℕ → ℕ → ℕ → ℕ → Bool

@@ -4,61 +4,37 @@
 #![tactic(auto)]
 
 ghost use Rattle.std.specs.Prelude.{◌≡◌, ◌+◌, ◌<◌};
-ghost use Rattle.theory.specs.Below.{first_below};
+ghost use Rattle.theory.specs.Below.Ends.{first_where};
 ghost use Rattle.format.specs.Code.{Value};
 ghost use Rattle.format.specs.Format.{protocol_of, end_weight, weights_of};
 ghost use Rattle.facts.specs.Code.{facts_of};
 ghost use Rattle.share.specs.Code.{closes_by, kept_by, KnownAt, ShareIs};
 ghost use Rattle.leaf.specs.Leaf.{over_limit, bad_leaf};
-ghost use Rattle.leaf.specs.Code.{RuleAt, change_at, next_change, keeps_in, all_from, fixed_at, share_of};
+ghost use Rattle.leaf.specs.Code.{RuleAt, keeps_in, all_from, fixed_at, share_of};
 
 use facts::Facts;
 use format::{Rule, Sizes};
 use share::{Closing, Fixed, Known, Share};
 
-// A rule, and the weights of its pairs at an end, each plus 20,000; two zeros for a rule that is unused.
-#[derive(Clone, Copy)]
-struct Change {
-    rule: u16,
-    before: u32,
-    after: u32,
-}
-
-// The first state at which leaf l has a weight outside -10,000 to 10,000 at end e + 1, or the number of states.
-pub fn first_fault(leaves: &[u8], z: Sizes, l: u16, e: u16) -> u16
-    ensures { result ≡ first_below z.states (over_limit z leaves.now l e) }
+// The first state at which leaf l has a weight outside -10,000 to 10,000 at end e + 1.
+pub fn first_fault(leaves: &[u8], z: Sizes, l: u16, e: u16) -> Option<u16>
+    ensures { result ≡ first_where z.states (over_limit z leaves.now l e) }
 {
-    let mut s: u16 = 0;
-    while s < z.states {
-        if 20000 < format::leaf_weight(leaves, z.states, l, e, s) {
-            return s;
-        }
-        s += 1;
-    }
-    s
+    (0..z.states).find(|&s| 20000 < format::leaf_weight(leaves, z.states, l, e, s))
 }
 
 // Whether leaf l has a weight outside -10,000 to 10,000.
 fn leaf_bad(leaves: &[u8], z: Sizes, l: u16) -> bool
     ensures { result ≡ bad_leaf z leaves.now l }
 {
-    let first = first_fault(leaves, z, l, 0);
-    let second = first_fault(leaves, z, l, 1);
-    (first < z.states) | (second < z.states)
+    (0..2).any(|e| first_fault(leaves, z, l, e).is_some())
 }
 
-// Test 11: the first leaf with a weight outside -10,000 to 10,000, or the number of leaves.
-pub fn leaf_fault(leaves: &[u8], z: Sizes) -> u16
-    ensures { result ≡ first_below z.leaves (bad_leaf z leaves.now) }
+// Test 11: the first leaf with a weight outside -10,000 to 10,000.
+pub fn leaf_fault(leaves: &[u8], z: Sizes) -> Option<u16>
+    ensures { result ≡ first_where z.leaves (bad_leaf z leaves.now) }
 {
-    let mut l: u16 = 0;
-    while l < z.leaves {
-        if leaf_bad(leaves, z, l) {
-            return l;
-        }
-        l += 1;
-    }
-    l
+    (0..z.leaves).find(|&l| leaf_bad(leaves, z, l))
 }
 
 // The weights of states p and q at end e + 1 together, plus 20,000.
@@ -78,29 +54,10 @@ fn rule_at(rules: &[u8], r: u16) -> Rule
     format::read_rule(rules, r)
 }
 
-// Rule r with the weights of its pairs at end e + 1; unused has the unused ones of the 64 rules of its word.
-fn rule_change(rules: &[u8], leaves: &[u8], z: Sizes, l: u16, e: u16, unused: u64, r: u16) -> Change
-    ensures { result ≡ change_at unused z rules.now leaves.now l e r }
-{
-    if bits::has(unused, (r as usize) % 64) {
-        return Change {
-            rule: r,
-            before: 0,
-            after: 0,
-        };
-    }
-    let rule = rule_at(rules, r);
-    let before = pair_weight(leaves, z, l, e, rule.p, rule.q);
-    let after = pair_weight(leaves, z, l, e, rule.p2, rule.q2);
-    Change {
-        rule: r,
-        before,
-        after,
-    }
-}
-
-// From rule r on, the first rule below n that is not unused and changes the weight of end e + 1, or n with two zeros.
-fn next_change(
+// Whether rule r is unused, or keeps the weight of end e + 1: that of the after pair is at most that of the before pair; by
+// remainders, the two are the same modulo m. unused has the unused ones of the 64 rules of its word.
+fn rule_keeps(
+    by: Closing,
     rules: &[u8],
     leaves: &[u8],
     z: Sizes,
@@ -108,27 +65,20 @@ fn next_change(
     e: u16,
     unused: u64,
     r: u16,
-    n: u16,
-) -> Change
-    ensures { result ≡ next_change unused z rules.now leaves.now l e r n }
+) -> bool
+    ensures { result ≡ keeps_in by unused z rules.now leaves.now l e r }
 {
-    let mut c = r;
-    while c < n {
-        let x = rule_change(rules, leaves, z, l, e, unused, c);
-        if x.before != x.after {
-            return x;
-        }
-        c += 1;
+    if bits::has(unused, (r as usize) % 64) {
+        return true;
     }
-    Change {
-        rule: c,
-        before: 0,
-        after: 0,
-    }
+    let rule = rule_at(rules, r);
+    let before = pair_weight(leaves, z, l, e, rule.p, rule.q);
+    let after = pair_weight(leaves, z, l, e, rule.p2, rule.q2);
+    // Most rules leave the weight as it is. Without this test a check by remainders takes longer.
+    before == after || share::relates(by, u64::from(after), u64::from(before))
 }
 
-// Whether every rule from r on and below n that is not unused keeps the weight of end e + 1: that of the after pair is at most
-// that of the before pair; by remainders, the two are the same modulo m. A rule that does not change the weight keeps it.
+// Whether every rule from r on and below n is unused or keeps the weight of end e + 1.
 fn word_keeps(
     by: Closing,
     rules: &[u8],
@@ -142,14 +92,7 @@ fn word_keeps(
 ) -> bool
     ensures { result ≡ all_from r n (keeps_in by unused z rules.now leaves.now l e) }
 {
-    let mut x = next_change(rules, leaves, z, l, e, unused, r, n);
-    while x.rule < n {
-        if !share::relates(by, x.after as u64, x.before as u64) {
-            return false;
-        }
-        x = next_change(rules, leaves, z, l, e, unused, x.rule + 1, n);
-    }
-    true
+    (r..n).all(|k| rule_keeps(by, rules, leaves, z, l, e, unused, k))
 }
 
 // Whether every rule that is not unused in run e + 1 keeps the weight of end e + 1. The set of unused rules is read once for
@@ -169,15 +112,13 @@ pub fn rules_keep(
 {
     let run = (e as usize) + 1;
     let set = facts.unused(run);
-    let mut r: u16 = 0;
-    while r < z.rules {
-        let word = r / 64;
+    for word in 0..z.rules.div_ceil(64) {
         let unused = bits::word(set, word as usize);
-        let n = format::lesser(z.rules as u32, 64 * (word as u32) + 64) as u16;
+        let r = 64 * word;
+        let n = r + (z.rules - r).min(64);
         if !word_keeps(by, rules, leaves, z, l, e, unused, r, n) {
             return false;
         }
-        r = n;
     }
     true
 }
@@ -266,15 +207,13 @@ pub fn leaf_closes(
     let second = known_at(facts, 2);
     let mut gains: u64 = 0;
     let mut losses: u64 = 0;
-    let mut s: u16 = 0;
-    while s < z.states {
+    for s in 0..z.states {
         let one = share_at(by, start, first, second, states, leaves, z, l, s);
         if !one.allowed {
             return false;
         }
         gains += one.gains;
         losses += one.losses;
-        s += 1;
     }
     !share::relates(by, gains, losses)
 }

@@ -1,23 +1,21 @@
 -- What a step and a run of the code say, as replies of theory's machine, and the contracts of both.
-use Rattle.std.specs.Prelude.{◌≡◌, List, ℕ}
+use Rattle.std.specs.Prelude.{◌≡◌, List, ℕ, Result, Ok, Err}
 use Rattle.theory.specs.Protocol.{Protocol}
 use Rattle.theory.specs.Ladder.{Layers}
 use Rattle.theory.specs.Machine.{Call, Reply, stepped, ran, refused, reply, counts_after}
 use Rattle.machine.specs.Calls.{reply_of, counts_of}
-use Rattle.machine.specs.declared.Stepped.{Stepped}
-use Rattle.machine.specs.declared.Stepped.TheVariants as step
+use Rattle.refusals.specs.Refusal.{Refusal}
 use Rattle.machine.specs.declared.Ran.{Ran}
-use Rattle.machine.specs.declared.Ran.TheVariants as run
 pub mod Laws
 pub mod Runs
 
-abbrev pub reply_of_step : Stepped → Reply
-reply_of_step step.Done = stepped
-reply_of_step (step.Refused r) = refused r.number r.place
+abbrev pub reply_of_step : Result (Unit {0}) Refusal → Reply
+reply_of_step (Ok t) = stepped
+reply_of_step (Err r) = refused r.number r.place
 
-abbrev pub reply_of_run : Ran → Reply
-reply_of_run (run.After n rests) = ran n rests
-reply_of_run (run.Refused r) = refused r.number r.place
+abbrev pub reply_of_run : Result Ran Refusal → Reply
+reply_of_run (Ok x) = ran x.steps x.rests
+reply_of_run (Err r) = refused r.number r.place
 
 -- A call x on counts c of a docket of sound shape, with protocol P and layers L, says `said` and leaves the counts d.
 pub record Replies (P : Protocol) (L : Layers) (c : List ℕ) (x : Call) (said : Reply) (d : List ℕ) : Type 0 where

@@ -1,6 +1,6 @@
 -- What a tree refutes, and what one node of it comes to (document 01, "The tree"), over the sections and words that the
 -- code has.
-use Rattle.std.specs.Prelude.{◌≡◌, Bool, true, false, not, cond, ◌&&◌, List, [], ◌∷◌, ℕ, ◌^◌, ◌≤◌, ◌<◌, leb, ltb, eqb}
+use Rattle.std.specs.Prelude.{◌≡◌, Bool, true, false, not, cond, ◌&&◌, List, [], ◌∷◌, ℕ, ◌^◌, ◌≤◌, ◌<◌, leb, ltb, eqb, Result, Ok, Err}
 use Rattle.std.specs.Bool.{beq}
 use Rattle.theory.specs.Bool.{member, imp}
 use Rattle.theory.specs.Below.{all_below}
@@ -8,6 +8,9 @@ use Rattle.theory.specs.Protocol.{Protocol}
 use Rattle.theory.specs.Facts.{Facts, with_absent, with_at_most_one, with_unused}
 use Rattle.theory.specs.Tree as theory
 use Rattle.theory.specs.Tree.{Assumption, refusal_number, ground, children, takes, puts, touches, within, is_trap, is_siphon, node}
+use Rattle.refusals.specs.Code.{number_of}
+use Rattle.refusals.specs.declared.Fault.{Fault}
+use Rattle.refusals.specs.declared.Fault.TheVariants.{Fields, Ground}
 use Rattle.bits.specs.Code.{among_of, without_of, in_words, in_word}
 use Rattle.format.specs.Format.{is_output, rule_p, rule_q, node_kind, node_party, node_argument, node_set}
 use Rattle.format.specs.Format.{protocol_of, tree_of}
@@ -16,11 +19,12 @@ use Rattle.facts.specs.Code.{facts_of, is_end, only_if}
 use Rattle.threshold.specs.Code.{closes_for, moduli_for, closes_modulo_for}
 use Rattle.threshold.specs.declared.Leaves.{Leaves}
 use Rattle.node.specs.declared.Aim.{Aim}
+use Rattle.node.specs.declared.Children.{Children}
+use Rattle.node.specs.declared.Children.TheVariants.{None, One, Two}
 use Rattle.node.specs.declared.Flow.{Flow}
+use Rattle.node.specs.declared.Kind.{Kind}
+use Rattle.node.specs.declared.Kind.TheVariants.{Leaf, Output, Contradiction, Disabled, Split, Trap, Siphon, Remainder}
 use Rattle.node.specs.declared.Node.{Node}
-use Rattle.node.specs.declared.Outcome.{Outcome}
-use Rattle.node.specs.declared.Outcome.TheVariants.{Refused, Closed, Child, Children}
-use Rattle.node.specs.declared.Step.{Step}
 pub mod Laws
 
 -- ---- What a tree refutes
@@ -30,7 +34,7 @@ abbrev pub output_at : Aim → ℕ → Bool
 output_at a k = cond (eqb k 2) a.second a.first
 
 -- The word of the states of that output.
-unfoldable pub assumed_word : Aim → ℕ → ℕ
+abbrev pub assumed_word : Aim → ℕ → ℕ
 assumed_word a k = cond (output_at a k) a.ones a.zeros
 
 -- What the aim assumes, of a tree with these leaves; the numbers are those of a claim sheet.
@@ -52,9 +56,38 @@ pub record AimFits (z : Sizes) (states : List ℕ) (a : Aim) : Type 0 where
 
 -- ---- The fields of a node
 
+-- The number of a kind.
+abbrev pub number_of_kind : Kind → ℕ
+number_of_kind Leaf = 0
+number_of_kind Output = 1
+number_of_kind Contradiction = 2
+number_of_kind Disabled = 3
+number_of_kind Split = 4
+number_of_kind Trap = 5
+number_of_kind Siphon = 6
+number_of_kind Remainder = 7
+
+-- The kind of this number; another number is a bad field.
+abbrev pub kind_of : ℕ → Result Kind Fault
+kind_of n =
+    cond (eqb n 0) (Ok Leaf) (
+    cond (eqb n 1) (Ok Output) (
+    cond (eqb n 2) (Ok Contradiction) (
+    cond (eqb n 3) (Ok Disabled) (
+    cond (eqb n 4) (Ok Split) (
+    cond (eqb n 5) (Ok Trap) (
+    cond (eqb n 6) (Ok Siphon) (
+    cond (eqb n 7) (Ok Remainder) (
+    Err Fields))))))))
+
+-- The fields of node i, where its kind is k.
+abbrev pub node_with : List ℕ → ℕ → Result Kind Fault → Result Node Fault
+node_with nodes i (Ok k) = Ok (record { kind = k; party = node_party nodes i; argument = node_argument nodes i; set = node_set nodes i })
+node_with nodes i (Err f) = Err f
+
 -- The fields of node i.
-abbrev pub node_of : List ℕ → ℕ → Node
-node_of nodes i = record { kind = node_kind nodes i; party = node_party nodes i; argument = node_argument nodes i; set = node_set nodes i }
+abbrev pub node_of : List ℕ → ℕ → Result Node Fault
+node_of nodes i = node_with nodes i (kind_of (node_kind nodes i))
 
 -- ---- Rules and a set, in words of 64 rules
 
@@ -68,7 +101,7 @@ pub record FlowAt (P : Protocol) (A : ℕ → Bool) (q : ℕ) (f : Flow) : Type 
   pub putting : member f.putting ≡ in_word q (rules_in P (puts P A))
 
 -- The rules that take from a set and put nothing into it; with reversed, those that put into it and take nothing from it.
-unfoldable pub breaking_of : Bool → Flow → ℕ → Bool
+abbrev pub breaking_of : Bool → Flow → ℕ → Bool
 breaking_of reversed f = cond reversed (without_of f.putting f.taking) (without_of f.taking f.putting)
 
 -- Whether the set A is a trap of the rules that are not unused; with reversed, of the reversed rules, that is, a siphon.
@@ -83,7 +116,7 @@ pub data Turn : Type 0 where
   proceed : List Facts → Turn
 
 -- Where the test fails, the refusal with number n; else t.
-unfoldable pub check : Bool → ℕ → Turn → Turn
+abbrev pub check : Bool → ℕ → Turn → Turn
 check true n t = t
 check false n t = refuse n
 
@@ -102,15 +135,19 @@ turn_at z states rules nodes numbers leaves aim F i =
     let H = assumption_of P z numbers leaves aim in
     node_turn P H F (node P H (tree_of z nodes) i)
 
--- What an outcome with the facts of two children says, and what the struct Step says.
-abbrev pub turn_of_outcome : Outcome → Facts → Facts → Turn
-turn_of_outcome (Refused n) F G = refuse n
-turn_of_outcome Closed F G = proceed []
-turn_of_outcome Child F G = proceed (F ∷ [])
-turn_of_outcome Children F G = proceed (F ∷ G ∷ [])
+-- Fields are tested before the ground.
+abbrev pub tested : Bool → Bool → Result (Unit {0}) Fault
+tested fields ground = cond fields (cond ground (Ok tt) (Err Ground)) (Err Fields)
 
-abbrev pub turn_of_step : Step → Turn
-turn_of_step s = turn_of_outcome s.outcome (facts_of s.first) (facts_of s.second)
+-- The facts of the children, and what an answer of the code says.
+abbrev pub facts_in : Children → List Facts
+facts_in None = []
+facts_in (One F) = facts_of F ∷ []
+facts_in (Two F G) = facts_of F ∷ facts_of G ∷ []
+
+abbrev pub turn_of_step : Result Children Fault → Turn
+turn_of_step (Ok c) = proceed (facts_in c)
+turn_of_step (Err f) = refuse (number_of f)
 
 -- ---- Fields, grounds and children, by kind; there are so many runs
 
@@ -168,7 +205,7 @@ pub record NamesSet (z : Sizes) (runs : ℕ) (n : Node) (t : Bool) : Type 0 wher
   pub states_most : z.states ≤ 64
 
 -- The party k where the test passed, otherwise the start.
-unfoldable pub party_if : Bool → ℕ → ℕ
+abbrev pub party_if : Bool → ℕ → ℕ
 party_if t k = cond t k 0
 
 -- Kinds 5 and 6: a trap is absent at its end, a siphon (reversed) at the start.

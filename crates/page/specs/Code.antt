@@ -1,24 +1,15 @@
 -- What the functions of the page answer, beside the definitions of Page.
-use Rattle.std.specs.Prelude.{◌≡◌, List, ◌++◌, ℕ, ◌*◌, ◌/◌, ◌≤◌, length, take, drop}
+use Rattle.std.specs.Prelude.{◌≡◌, List, ◌++◌, ℕ, ◌*◌, take, drop, Result, Ok, Err}
 use Rattle.theory.specs.Judge.{judge}
 use Rattle.theory.specs.Machine.{run, reply, counts_after}
 use Rattle.format.specs.Format.{protocol_in, layers_in}
 use Rattle.format.specs.declared.Header.{Header}
-use Rattle.shape.specs.Code.{failed}
-use Rattle.shape.specs.declared.Tested.{Tested}
-use Rattle.shape.specs.declared.Tested.TheVariants.{Passed, Failed}
+use Rattle.refusals.specs.Refusal.{Refusal, refusal}
 use Rattle.page.specs.Page.{result_of, page_tests, each_part}
-use Rattle.page.specs.declared.Paged.{Paged}
-use Rattle.page.specs.declared.Paged.TheVariants.{Done, Refused}
 
 -- What tests 32 and 33 find.
-unfoldable pub page_tested : ℕ → ℕ → ℕ → Tested
-page_tested n counts results = judge failed Passed (page_tests n counts results)
-
--- The answer after these tests.
-abbrev pub as_paged : Tested → Paged
-as_paged Passed = Done
-as_paged (Failed r) = Refused r
+unfoldable pub page_tested : ℕ → ℕ → ℕ → Result (Unit {0}) Refusal
+page_tested n counts results = judge (λ m k. Err (refusal m k)) (Ok tt) (page_tests n counts results)
 
 -- The run of counts d on a docket of sound shape, with bytes b and header h: the counts that it leaves, and its two results.
 module _ (b : List ℕ) (h : Header) (limit : ℕ) (d : List ℕ) where
@@ -39,6 +30,5 @@ up_to f m old n c g = each_part f n c g ++ drop (g * m) old
 
 -- The first g groups of the counts c have been run, on a docket of sound shape; the results were old.
 pub record RunUpTo (b : List ℕ) (h : Header) (limit : ℕ) (c old : List ℕ) (g : ℕ) (counts results : List ℕ) : Type 0 where
-  pub within : g ≤ length c / h.sizes.states
   pub counts_are : counts ≡ up_to (run_counts b h limit) h.sizes.states c h.sizes.states c g
   pub results_are : results ≡ up_to (run_result b h limit) 2 old h.sizes.states c g

@@ -1,14 +1,13 @@
 -- The call that runs the groups of a page (document 02, Job 8). It is lent the counts of the groups behind each other and two
 -- results for each group, and runs each group within its own part of the counts, which document 01 calls its stretch.
-use Rattle.std.specs.Prelude.{not, ◌||◌, List, [], ◌∷◌, ◌++◌, ℕ, zero, suc, ◌+◌, ◌*◌, ◌/◌, ◌%◌, eqb, length, take, drop}
+use Rattle.std.specs.Prelude.{not, ◌||◌, List, [], ◌∷◌, ◌++◌, ℕ, zero, suc, ◌+◌, ◌*◌, ◌/◌, ◌%◌, eqb, length, take, drop, Result, Ok, Err}
 use Rattle.theory.specs.Bool.{bit}
 use Rattle.theory.specs.Judge.{Test, only, judge}
 use Rattle.theory.specs.Machine.{run, Reply, stepped, ran, refused}
 use Rattle.format.specs.Format.{header_of}
-use Rattle.shape.specs.Shape.{refusal, shape_of, by_shape}
+use Rattle.refusals.specs.Refusal.{Refusal, refusal}
+use Rattle.shape.specs.Shape.{shape_of, by_shape}
 use Rattle.machine.specs.Calls.{reply_of, counts_of}
-use Rattle.page.specs.declared.Paged.{Paged}
-use Rattle.page.specs.declared.Paged.TheVariants.{Done, Refused}
 
 -- ---- Groups
 
@@ -39,9 +38,9 @@ page_tests n counts results =
     ∷ []
 
 -- The answer, for a docket with bytes b, counts c and results r: tests 1 to 8 first, once for all groups; then 32, then 33.
-unfoldable pub page_of : List ℕ → List ℕ → List ℕ → Paged
+unfoldable pub page_of : List ℕ → List ℕ → List ℕ → Result (Unit {0}) Refusal
 page_of b c r =
-    by_shape Refused (λ h. judge (λ n k. Refused (refusal n k)) Done (page_tests h.sizes.states (length c) (length r))) (shape_of b)
+    by_shape Err (λ h. judge (λ n k. Err (refusal n k)) (Ok tt) (page_tests h.sizes.states (length c) (length r))) (shape_of b)
 
 -- ---- What the call leaves
 
@@ -50,9 +49,9 @@ abbrev pub by_groups : List ℕ → List ℕ → (List ℕ → List ℕ) → Lis
 by_groups b c f = let n = (header_of b).sizes.states in each_part f n c (length c / n)
 
 -- What a buffer holds after this answer: what is made of the groups or, where the call is refused, what it held before.
-abbrev pub unless_refused : List ℕ → List ℕ → Paged → List ℕ
-unless_refused old new Done = new
-unless_refused old new (Refused r) = old
+abbrev pub unless_refused : List ℕ → List ℕ → Result (Unit {0}) Refusal → List ℕ
+unless_refused old new (Ok t) = new
+unless_refused old new (Err r) = old
 
 module _ (b c : List ℕ) (limit : ℕ) (r : List ℕ) where
   -- The counts after the call: each group as the run call with this limit leaves it, on its counts alone.

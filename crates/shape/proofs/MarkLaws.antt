@@ -1,5 +1,5 @@
 -- Laws for test 7, which marks the rules it has met, and for test 8, which marks the layers. Assumes nothing.
-use Rattle.std.specs.Prelude.{◌≡◌, refl, Bool, not, ◌||◌, ◌&&◌, List, leb, ltb, length, get_or, set}
+use Rattle.std.specs.Prelude.{◌≡◌, refl, Bool, not, ◌||◌, ◌&&◌, List, ltb, length, get_or, set, Option, None}
 use Rattle.std.proofs.Math.Path.{sym, ap, fun_ext}
 use Rattle.std.proofs.Common.{◌∙◌, add-one, length-set, get_or-set_other}
 use Rattle.std.proofs.Math.Bool.{true, false, and-false, or_comm}
@@ -7,14 +7,15 @@ use Rattle.std.proofs.Math.Logic.{by_cases}
 use Prim.Native.Nat.{ℕ, ◌+◌, ◌*◌, ◌≤◌, ◌<◌, ◌/◌, ◌%◌}
 use Rattle.std.proofs.Math.Decide.{dec_lt, ℕ_discrete}
 use native.Mathlib.Omega.{arith}
-use borrow.Author.Tests.{lt-ltb, leb-true, eq-eqb, eqb-true, not-true, not-false}
+use borrow.Author.Tests.{lt-ltb, eq-eqb, eqb-true, not-true, not-false}
 use Rattle.std.proofs.Math.Dec.{eqb}
 use Rattle.std.proofs.Math.Seq.{get_or-set_same}
-use Rattle.theory.specs.Bool.{member, bit}
+use Rattle.theory.specs.Bool.{member}
 use Rattle.theory.proofs.Bool.Laws.{by_test, not_both, is_false, and_elim, and_intro, or_left, or_right}
-use Rattle.theory.specs.Below.{any_below, first_below, Clear}
-use Rattle.theory.proofs.Below.Laws.{first_le, first-lowest, any_elim, any_intro}
-use Rattle.theory.proofs.Below.Scan.{first-end, found, at_end}
+use Rattle.theory.specs.Below.{any_below}
+use Rattle.theory.specs.Below.Ends.{first_where}
+use Rattle.theory.proofs.Below.Laws.{any_elim, any_intro}
+use Rattle.theory.proofs.Below.Scan.{first_where-is, first_where-tells, at_end}
 use Rattle.bits.specs.Code.{with_if}
 use Rattle.bits.specs.Code.Laws.{member_none, single-below}
 use Rattle.format.specs.Code.{Value}
@@ -33,20 +34,9 @@ module _ (rules : List ℕ) (whole : Bool) (r : ℕ) (m : Bool) where
   pub not_searched : not m ≡ true → false ≡ (m && again rules whole r)
   not_searched o = rw (not-true m o) refl
 
-  pub like_found : (y : Rule) (e : ℕ) (t : Bool) → not m ≡ false → y ≡ rule_of rules r → e < r → t ≡ alike rules whole y e → t ≡ true
-      → true ≡ (m && again rules whole r)
+  pub like_any : (y : Rule) (t : Bool) → not m ≡ false → y ≡ rule_of rules r → t ≡ any_below r (alike rules whole y) → t ≡ (m && again rules whole r)
   unfolding again
-  like_found y e t o a l h u =
-      rw (not-false m o) (sym (any_intro r (alike rules whole (rule_of rules r)) e l (ap (λ v. alike rules whole v e) (sym a) ∙ sym h ∙ u)))
-
-  pub like_none : (y : Rule) (e : ℕ) → not m ≡ false → y ≡ rule_of rules r → r ≤ e → Clear (alike rules whole y) e → false ≡ (m && again rules whole r)
-  unfolding again
-  like_none y e o a l clear =
-      rw (not-false m o)
-      (sym (is_false _
-      (λ h.
-      let s = any_elim r (alike rules whole (rule_of rules r)) h in
-      not_both s.2 (ap (λ v. alike rules whole v s.0) (sym a) ∙ clear s.0 (omega (arith, s.1))))))
+  like_any y t o a h = rw (not-false m o) (h ∙ ap (λ v. any_below r (alike rules whole v)) a)
 
 pub length-kept : (marks : List ℕ) (k w n : ℕ) → length marks ≡ n → length (set marks k w) ≡ n
 length-kept marks k w n h = length-set marks k w ∙ h
@@ -122,14 +112,14 @@ module _ (rules : List ℕ) (whole : Bool) (r p q : ℕ) (vp : Value 256 (rule_p
   pub pair_mark : whole ≡ false → Value 4096 (mark_of rules whole r) ((64 * p + q) % 4096)
   pair_mark e = record { is = rw (e, vp.is, vq.is); small = omega arith }
 
--- ---- Test 7 by two searches: k is the first rule like an earlier one, by before pairs or, if whole, by both pairs.
+-- ---- Test 7 by two searches: k is the first rule like an earlier one, if any, by before pairs or, if whole, by both pairs.
 
-module _ (rules : List ℕ) (n k : ℕ) where
+module _ (rules : List ℕ) (n : ℕ) (k : Option ℕ) where
   -- Where no two rules have one before pair, no two are equal.
-  pairs_once : k ≡ first_below n (again rules false) → n ≤ k → k ≡ first_below n (repeats rules)
+  pub pairs_once : k ≡ first_where n (again rules false) → k ≡ None → None ≡ first_where n (repeats rules)
   unfolding again alike repeats
-  pairs_once h l =
-      first-end n (repeats rules) k (omega (arith, h, first_le n (again rules false))) l
+  pairs_once h u =
+      first_where-is n (repeats rules) None
       (λ r m.
       is_false _
       (λ e.
@@ -137,17 +127,11 @@ module _ (rules : List ℕ) (n k : ℕ) where
       let before = (and_elim (same_before (rule_of rules s.0) (rule_of rules r)) _ s.2).0 in
       not_both
       (any_intro r (alike rules false (rule_of rules r)) s.0 s.1 (and_intro _ true before refl))
-      (first-lowest n (again rules false) r (omega (arith, h)))))
+      (first_where-tells n (again rules false) None (sym u ∙ h) r m)))
 
-  pub search_ends : (whole : Bool) → k ≡ first_below n (again rules whole) → whole || leb n k ≡ true → k ≡ first_below n (repeats rules)
+  pub whole_found : k ≡ first_where n (again rules true) → k ≡ first_where n (repeats rules)
   unfolding again alike repeats
-  search_ends true h t = h
-  search_ends false h t = pairs_once h (leb-true n k t)
-
--- The first search is followed by one more.
-pub search_follows : (whole t : Bool) → whole || t ≡ false → bit (not true) < bit (not whole)
-search_follows true t h = absurd (not_both refl h)
-search_follows false t h = omega arith
+  whole_found h = h
 
 -- ---- Test 8
 
@@ -176,6 +160,3 @@ module _ (rules : List ℕ) where
   pub used_is : (n w l : ℕ) (t : Bool) → member w ≡ used_below rules n → l < 64 → t ≡ member w l → t ≡ any_below n (in_layer rules l)
   unfolding used_below
   used_is n w l t h b e = e ∙ ap (λ (A : ℕ → Bool). A l) h ∙ rw (lt-ltb l 64 b)
-
-  pub used_found : (n l k : ℕ) → k ≡ first_below n (in_layer rules l) → ltb k n ≡ any_below n (in_layer rules l)
-  used_found n l k = found n (in_layer rules l) k

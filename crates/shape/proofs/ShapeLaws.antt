@@ -1,74 +1,26 @@
 -- Laws for the functions of the shape. Assumes nothing.
-use Rattle.std.specs.Prelude.{◌≡◌, refl, Bool, true, false, not, ◌||◌, ◌&&◌, List, [], ◌∷◌, ◌++◌, ℕ, zero, suc, ◌+◌, ◌-◌, ◌≤◌, ◌<◌, ltb, eqb, length}
+use Rattle.std.specs.Prelude.{◌≡◌, refl, Bool, true, false, not, ◌||◌, ◌&&◌, List, [], ℕ, zero, suc, ◌+◌, ◌-◌, ◌≤◌, ◌<◌, eqb, Option, Some, None, Result, Ok, Err}
 use Rattle.std.proofs.Common.{sym, ap, ◌∙◌, arith}
+use Rattle.std.specs.Option.{is_some}
 use Rattle.std.proofs.Math.Bool.{or-false}
 use Rattle.std.proofs.Math.Decide.{dec_lt}
 use Rattle.std.proofs.Math.Logic.{by_cases}
 use borrow.Author.Tests.{lt-ltb, le-ltb, eq-eqb, ne_eqb, eqb-true, eqb-false}
-use Rattle.theory.proofs.Bool.Laws.{by_test}
-use Rattle.theory.specs.Below.{Clear, first_below, any_below}
-use Rattle.theory.proofs.Below.Laws.{first_is, first_passes, first-lowest}
-use Rattle.theory.proofs.Below.Scan.{clear_more, first_hit, first-end, first_any, found}
+use Rattle.theory.proofs.Bool.Laws.{by_test, not_both}
+use Rattle.theory.specs.Below.{Clear, any_below}
+use Rattle.theory.specs.Below.Ends.{first_where}
+use Rattle.theory.proofs.Below.Scan.{clear_more, first_where-is, first_where-tells, where_hit, where-end}
 use Rattle.format.specs.Format.{sections, sections_of, is_input, rule_of, rule_before}
 use Rattle.format.specs.declared.Sizes.{Sizes}
 use Rattle.format.specs.declared.Header.{Header}
 use Rattle.format.specs.declared.Rule.{Rule}
 use Rattle.theory.specs.Judge.{Test, judge, Passes}
 use Rattle.theory.proofs.Judge.Laws.{judge_map, judge-passes}
-use Rattle.shape.specs.Shape.{refusal, nth, bad_record, not_after, in_layer, too_large, bad_state, bad_fields, bad_rule, out_of_order, bad_layer}
+use Rattle.shape.specs.Shape.{bad_record, not_after, in_layer, too_large, bad_state, bad_fields, bad_rule, out_of_order, bad_layer}
 use Rattle.shape.specs.Shape.{section_tests, by_shape}
-use Rattle.shape.specs.Code.{failed, tested_of, as_shape, refusal_of}
-use Rattle.shape.specs.declared.Refusal.{Refusal}
-use Rattle.shape.specs.declared.Tested.{Tested}
-use Rattle.shape.specs.declared.Tested.TheVariants.{Passed, Failed}
-use Rattle.shape.specs.declared.Shape.{Shape}
-use Rattle.shape.specs.declared.Shape.TheVariants.{Sound, Refused}
-
--- ---- The first true of a list
-
-module _ (a b c d e f : Bool) where
-  abbrev first : ℕ
-  first = first_below 6 (nth (a ∷ b ∷ c ∷ d ∷ e ∷ f ∷ []))
-
-  pub first_a : a ≡ true → 0 ≡ first
-  unfolding first_below
-  first_a ha = rw (ha, first_below)
-
-  pub first_b : a ≡ false → b ≡ true → 1 ≡ first
-  unfolding first_below
-  first_b ha hb = rw (ha, hb, first_below)
-
-  pub first_c : a ≡ false → b ≡ false → c ≡ true → 2 ≡ first
-  unfolding first_below
-  first_c ha hb hc = rw (ha, hb, hc, first_below)
-
-  pub first_d : a ≡ false → b ≡ false → c ≡ false → d ≡ true → 3 ≡ first
-  unfolding first_below
-  first_d ha hb hc hd = rw (ha, hb, hc, hd, first_below)
-
-  pub first_e : a ≡ false → b ≡ false → c ≡ false → d ≡ false → e ≡ true → 4 ≡ first
-  unfolding first_below
-  first_e ha hb hc hd he = rw (ha, hb, hc, hd, he, first_below)
-
-  pub first_f : a ≡ false → b ≡ false → c ≡ false → d ≡ false → e ≡ false → f ≡ true → 5 ≡ first
-  unfolding first_below
-  first_f ha hb hc hd he hf = rw (ha, hb, hc, hd, he, hf, first_below)
-
-  pub first_none : a ≡ false → b ≡ false → c ≡ false → d ≡ false → e ≡ false → f ≡ false → 6 ≡ first
-  unfolding first_below
-  first_none ha hb hc hd he hf = rw (ha, hb, hc, hd, he, hf, first_below)
-
-pub ruleset first_true = (first_a, first_b, first_c, first_d, first_e, first_f, first_none)
-
--- A true entry at the end changes nothing.
-last_true : (ts : List Bool) → first_below (suc (length ts)) (nth (ts ++ (true ∷ []))) ≡ first_below (length ts) (nth ts)
-unfolding first_below
-last_true [] = refl
-last_true (true ∷ ts) = refl
-last_true (false ∷ ts) = ap suc (last_true ts)
-
-pub five_of_six : (r : ℕ) (a b c d e : Bool) → r ≡ first_below 6 (nth (a ∷ b ∷ c ∷ d ∷ e ∷ true ∷ [])) → r ≡ first_below 5 (nth (a ∷ b ∷ c ∷ d ∷ e ∷ []))
-five_of_six r a b c d e h = h ∙ last_true (a ∷ b ∷ c ∷ d ∷ e ∷ [])
+use Rattle.shape.specs.Code.{tested_of, header_in}
+use Rattle.refusals.specs.Refusal.{Refusal, refusal}
+use Rattle.shape.specs.declared.sound.Docket.{Docket}
 
 -- ---- Offsets
 
@@ -94,31 +46,39 @@ module _ (z : Sizes) (states : List ℕ) where
   unfolding bad_state
   bad-end = rw (le-ltb z.states z.states (omega arith), eq-eqb z.states z.states refl)
 
-  -- s is the first state with a bad record.
-  module _ (s : ℕ) (e : s ≡ first_below z.states (bad_record z states)) where
-    pub first-bad_record : s < z.states → s ≡ first_below (z.states + 1) (bad_state z states)
-    first-bad_record l =
-        sym (first_is (z.states + 1) (bad_state z states) s (omega arith)
-        (λ k m. bad-below k (omega arith) ∙ first-lowest z.states (bad_record z states) k (omega arith))
-        (λ _. bad-below s l ∙ ap (bad_record z states) e ∙ first_passes z.states (bad_record z states) (omega arith)))
+  -- r is the first state with a bad record, if any.
+  module _ (r : Option ℕ) (e : r ≡ first_where z.states (bad_record z states)) where
+    pub first-bad_record : is_some r ≡ true → r ≡ first_where (z.states + 1) (bad_state z states)
+    first-bad_record u = go r e u
+      where
+        go : (r : Option ℕ) → r ≡ first_where z.states (bad_record z states) → is_some r ≡ true → r ≡ first_where (z.states + 1) (bad_state z states)
+        go (Some s) d v =
+            let f = first_where-tells z.states (bad_record z states) (Some s) d in
+            first_where-is (z.states + 1) (bad_state z states) (Some s)
+            (omega (arith, f.0), bad-below s f.0 ∙ f.1, λ k m. bad-below k (omega (arith, f.0)) ∙ f.2 k m)
+        go None d v = absurd (not_both v refl)
 
-    -- There is none, and i is the first input state.
-    module _ (i : ℕ) (d : i ≡ first_below z.states (is_input z states)) (none : z.states ≤ s) where
+    -- There is none, and t is whether there is an input state.
+    module _ (t : Bool) (d : t ≡ any_below z.states (is_input z states)) (none : is_some r ≡ false) where
       clear : (k : ℕ) → k < z.states → bad_state z states k ≡ false
-      clear k l = bad-below k l ∙ first-lowest z.states (bad_record z states) k (omega arith)
+      clear = go r e none
+        where
+          go : (r : Option ℕ) → r ≡ first_where z.states (bad_record z states) → is_some r ≡ false → (k : ℕ) → k < z.states → bad_state z states k ≡ false
+          go (Some s) d v k l = absurd (not_both refl v)
+          go None d v k l = bad-below k l ∙ first_where-tells z.states (bad_record z states) None d k l
 
-      at_end : (t : Bool) → ltb i z.states ≡ t → bad_state z states z.states ≡ not t
-      at_end t h = bad-end ∙ ap not (sym (first_any z.states (is_input z states)) ∙ ap (λ n. ltb n z.states) (sym d) ∙ h)
+      at_end : bad_state z states z.states ≡ not t
+      at_end = bad-end ∙ ap not (sym d)
 
-      pub first-beyond : i < z.states → z.states + 1 ≡ first_below (z.states + 1) (bad_state z states)
-      first-beyond l =
-          sym (first_is (z.states + 1) (bad_state z states) (z.states + 1) (omega arith)
+      pub first-beyond : t ≡ true → None ≡ first_where (z.states + 1) (bad_state z states)
+      first-beyond u =
+          first_where-is (z.states + 1) (bad_state z states) None
           (λ k m. by_cases (dec_lt k z.states) (clear k)
-          (λ g. let q : k ≡ z.states = omega arith in ap (bad_state z states) q ∙ at_end true (lt-ltb _ _ l)))
-          (λ m. absurd (omega arith)))
+          (λ g. let q : k ≡ z.states = omega arith in ap (bad_state z states) q ∙ at_end ∙ ap not u))
 
-      pub first_no_input : z.states ≤ i → z.states ≡ first_below (z.states + 1) (bad_state z states)
-      first_no_input l = sym (first_is (z.states + 1) (bad_state z states) z.states (omega arith) clear (λ _. at_end false (le-ltb _ _ l)))
+      pub first_no_input : t ≡ false → Some z.states ≡ first_where (z.states + 1) (bad_state z states)
+      first_no_input u =
+          first_where-is (z.states + 1) (bad_state z states) (Some z.states) (omega arith, at_end ∙ ap not u, clear)
 
 -- ---- The rule and layer tests
 
@@ -129,9 +89,9 @@ bad_read z rules r x t e h = h ∙ ap (bad_fields z) e
 -- ---- The order test
 
 -- In version 2 it is a test of neighbours.
-tried : (z : Sizes) (rules : List ℕ) → z.version ≡ 2 → first_below z.rules (not_after rules) ≡ first_below z.rules (out_of_order z rules)
+tried : (z : Sizes) (rules : List ℕ) → z.version ≡ 2 → first_where z.rules (not_after rules) ≡ first_where z.rules (out_of_order z rules)
 unfolding out_of_order
-tried z rules v = ap (λ t. first_below z.rules (λ r. t && not_after rules r)) (sym (eq-eqb z.version 2 v))
+tried z rules v = ap (λ t. first_where z.rules (λ r. t && not_after rules r)) (sym (eq-eqb z.version 2 v))
 
 -- The search for a rule out of order has come to rule i: x is the one before it, and no rule below i is out of order.
 pub record InOrderTo (rules : List ℕ) (x : Rule) (i : ℕ) : Type 0 where
@@ -164,51 +124,63 @@ module _ (rules : List ℕ) (x y : Rule) (i : ℕ) (t : Bool) (I : InOrderTo rul
     clear = clear_more (not_after rules) i (not t) I.clear read_there u;
   }
 
-  pub order_stops : (z : Sizes) → z.version ≡ 2 → i < z.rules → not t ≡ true → i ≡ first_below z.rules (out_of_order z rules)
-  order_stops z v l u = first_hit z.rules (not_after rules) i (not t) l I.clear read_there u ∙ tried z rules v
+  pub order_stops : (z : Sizes) → z.version ≡ 2 → i < z.rules → not t ≡ true → Some i ≡ first_where z.rules (out_of_order z rules)
+  order_stops z v l u = where_hit z.rules (not_after rules) i (not t) l I.clear read_there u ∙ tried z rules v
 
+-- At the end, where there are two rules or more, and where there are fewer.
 pub order_ends : (z : Sizes) (rules : List ℕ) (x : Rule) (i : ℕ) → z.version ≡ 2 → InOrderTo rules x i → z.rules ≤ i
-    → z.rules ≡ first_below z.rules (out_of_order z rules)
-order_ends z rules x i v I l =
-    first-end z.rules (not_after rules) z.rules (omega arith) (omega arith) (λ k m. I.clear k (omega arith)) ∙ tried z rules v
+    → None ≡ first_where z.rules (out_of_order z rules)
+order_ends z rules x i v I l = where-end z.rules (not_after rules) i l I.clear ∙ tried z rules v
 
-pub order_untried : (z : Sizes) (rules : List ℕ) → (z.version ≡ 2 → ⊥) → z.rules ≡ first_below z.rules (out_of_order z rules)
+pub order_untried : (z : Sizes) (rules : List ℕ) → (z.version ≡ 2 → ⊥) → None ≡ first_where z.rules (out_of_order z rules)
 unfolding out_of_order
 order_untried z rules n =
-    first-end z.rules (out_of_order z rules) z.rules (omega arith) (omega arith) (λ k l. rw (ne_eqb z.version 2 n))
+    where-end z.rules (out_of_order z rules) z.rules (omega arith) (λ k l. rw (ne_eqb z.version 2 n))
 
-pub layer_found : (z : Sizes) (rules layers : List ℕ) (l j : ℕ) (t : Bool) → t ≡ any_below z.rules (in_layer rules l)
-    → j ≡ first_below z.states (too_large z.states layers l)
-    → not t || ltb j z.states ≡ bad_layer z rules layers l
+pub layer_found : (z : Sizes) (rules layers : List ℕ) (l : ℕ) (t u : Bool) → t ≡ any_below z.rules (in_layer rules l)
+    → u ≡ any_below z.states (too_large z.states layers l) → not t || u ≡ bad_layer z rules layers l
 unfolding bad_layer
-layer_found z rules layers l j t e d = rw (e, found z.states (too_large z.states layers l) j d)
+layer_found z rules layers l t u e d = rw (e, d) refl
 
 -- ---- The whole
 
-failed_not_passed : {r : Refusal} → Failed r ≡ Passed → ⊥
-failed_not_passed {r} e = let z : ◌≡◌ {A = ℕ} 0 1 = cc in omega arith
+err_not_ok : {A R : Type 0} {r : R} {a : A} → Err r ≡ Ok a → ⊥
+err_not_ok {A} {R} {r} {a} e = let z : ◌≡◌ {A = ℕ} 0 1 = cc in omega arith
 
 -- Where tests are passed none has a bad place.
-pub tested_passes : (ts : List Test) → judge failed Passed ts ≡ Passed → Passes ts
-tested_passes = judge-passes failed Passed Passed (λ n k. failed_not_passed)
+pub tested_passes : {R : Type 0} (refuse : ℕ → ℕ → R) (ts : List Test) → judge {A = Result (Unit {0}) R} (λ n k. Err (refuse n k)) (Ok tt) ts ≡ Ok tt → Passes ts
+tested_passes refuse = judge-passes (λ n k. Err (refuse n k)) (Ok tt) (Ok tt) (λ n k. err_not_ok)
 
-pub tested_shape : (b : List ℕ) (h : Header) (states rules layers : List ℕ) (o : Tested) (r : Shape)
-    → states ≡ (sections_of b h).states → rules ≡ (sections_of b h).rules → layers ≡ (sections_of b h).layers
-    → o ≡ tested_of h.sizes states rules layers → r ≡ as_shape h o
-    → r ≡ judge (λ n k. Refused (refusal n k)) (Sound h) (section_tests h.sizes (sections_of b h))
-unfolding tested_of
-tested_shape b h states rules layers o r s u l e d =
-    rw (← s, ← u, ← l)
-    (d ∙ ap (as_shape h) e
-    ∙ judge_map (as_shape h) failed Passed
-    (section_tests h.sizes (sections states rules layers [] [])))
+-- What the tests of the sections find, as a shape with header h.
+abbrev as_shape : Header → Result (Unit {0}) Refusal → Result Header Refusal
+as_shape h (Ok t) = Ok h
+as_shape h (Err r) = Err r
+
+module _ (b : List ℕ) (h : Header) (states rules layers : List ℕ) (o : Result (Unit {0}) Refusal)
+    (s : states ≡ (sections_of b h).states) (u : rules ≡ (sections_of b h).rules) (l : layers ≡ (sections_of b h).layers)
+    (e : o ≡ tested_of h.sizes states rules layers) where
+  by_sections : as_shape h o ≡ judge (λ n k. Err (refusal n k)) (Ok h) (section_tests h.sizes (sections_of b h))
+  unfolding tested_of
+  by_sections =
+      rw (← s, ← u, ← l)
+      (ap (as_shape h) e
+      ∙ judge_map (as_shape h) (λ n k. Err (refusal n k)) (Ok tt)
+      (section_tests h.sizes (sections states rules layers [] [])))
+
+  pub sections_refuse : (r : Refusal) (a : Result Header Refusal) → o ≡ Err r → a ≡ Err r
+      → a ≡ judge (λ n k. Err (refusal n k)) (Ok h) (section_tests h.sizes (sections_of b h))
+  sections_refuse r a v g = g ∙ ap (as_shape h) (sym v) ∙ by_sections
+
+  pub sections_pass : (a : Result Header Refusal) → o ≡ Ok tt → a ≡ Ok h
+      → a ≡ judge (λ n k. Err (refusal n k)) (Ok h) (section_tests h.sizes (sections_of b h))
+  sections_pass a v g = g ∙ ap (as_shape h) (sym v) ∙ by_sections
 
 -- ---- Callers
 
--- A caller that takes the shape s apart follows by_shape.
-module _ {A : Type 0} (refuse : Refusal → A) (f : Header → A) (a : A) (s t : Shape) (e : s ≡ t) where
-  pub sound_then : (h : Header) → s ≡ Sound h → a ≡ f h → a ≡ by_shape refuse f t
-  sound_then h u g = g ∙ ap (by_shape refuse f) (sym u ∙ e)
+-- A caller that takes the shape apart follows by_shape: d is a docket of this shape, or r a refusal.
+module _ {A : Type 0} (refuse : Refusal → A) (f : Header → A) (a : A) (s : Result Docket Refusal) (t : Result Header Refusal) (e : header_in s ≡ t) where
+  pub sound_then : (d : Docket) → s ≡ Ok d → a ≡ f d.header → a ≡ by_shape refuse f t
+  sound_then d u g = g ∙ ap (by_shape refuse f) (ap header_in (sym u) ∙ e)
 
-  pub sound_else : (r q : Refusal) → s ≡ Refused r → q ≡ refusal_of s → a ≡ refuse q → a ≡ by_shape refuse f t
-  sound_else r q u p g = g ∙ ap refuse (p ∙ ap refusal_of u) ∙ ap (by_shape refuse f) (sym u ∙ e)
+  pub sound_else : (r : Refusal) → s ≡ Err r → a ≡ refuse r → a ≡ by_shape refuse f t
+  sound_else r u g = g ∙ ap (by_shape refuse f) (ap header_in (sym u) ∙ e)

@@ -18,12 +18,12 @@ use Rattle.format.specs.declared.Sizes.{Sizes}
 use Rattle.format.specs.declared.Header.{Header}
 use Rattle.theory.specs.Judge.{Passes}
 use Rattle.theory.proofs.Judge.Laws.{judge-passes, passes-judge, passes_both}
-use Rattle.shape.specs.Shape.{refusal, wrong_version, count_faults, offset_faults, nth, other_bits, too_many_fixed, bad_record}
+use Rattle.shape.specs.Shape.{wrong_version, count_faults, offset_faults, nth, other_bits, too_many_fixed, bad_record}
 use Rattle.shape.specs.Shape.{same_before, same_rule, in_layer, too_large}
 use Rattle.shape.specs.Shape.{bad_state, bad_rule, repeats, out_of_order, bad_layer, section_tests, header_tests, shape_tests, header_shape, shape_of}
-use Rattle.shape.specs.declared.Refusal.{Refusal}
-use Rattle.shape.specs.declared.Shape.{Shape}
-use Rattle.shape.specs.declared.Shape.TheVariants.{Sound, Refused}
+use Rattle.refusals.specs.Refusal.{Refusal, refusal}
+use Rattle.shape.specs.declared.sound.Docket.{Docket}
+use Rattle.std.specs.Prelude.{Result, Ok, Err}
 use Rattle.shape.proofs.MarkLaws.{pair_same}
 use Rattle.shape.specs.Sound.{IsVersion, Limits, Laid, InOrder, SoundSections, SoundShape}
 use Rattle.shape.specs.Code.{Lengths, SoundRules}
@@ -333,18 +333,18 @@ module _ (b : List ℕ) (h : Header) where
       within : (k : ℕ) {n : ℕ} → k + n ≤ length b → length (section b k n) ≡ n
       within k {n} l = simp (length-take, length-drop) (omega arith)
 
-refused_not_sound : {r : Refusal} {h : Header} → Refused r ≡ Sound h → ⊥
+refused_not_sound : {r : Refusal} {h : Header} → Err r ≡ Ok h → ⊥
 refused_not_sound {r} {h} e = let z : ◌≡◌ {A = ℕ} 0 1 = cc in omega arith
 
-abbrev refuse : ℕ → ℕ → Shape
-refuse n k = Refused (refusal n k)
+abbrev refuse : ℕ → ℕ → Result Header Refusal
+refuse n k = Err (refusal n k)
 
 -- What read_shape's callers use.
-pub sound_shape : (b : List ℕ) (h : Header) → shape_of b ≡ Sound h → SoundShape b h
+pub sound_shape : (b : List ℕ) (h : Header) → shape_of b ≡ Ok h → SoundShape b h
 unfolding shape_of header_shape
 sound_shape b h e =
-    let passes = judge-passes refuse (Sound (header_of b)) (Sound h) (λ n k. refused_not_sound) (shape_tests b (header_of b)) e in
-    let same : Sound (header_of b) ≡ Sound h = sym (passes-judge refuse (Sound (header_of b)) (shape_tests b (header_of b)) passes) ∙ e in
+    let passes = judge-passes refuse (Ok (header_of b)) (Ok h) (λ n k. refused_not_sound) (shape_tests b (header_of b)) e in
+    let same : Ok (header_of b) ≡ Ok h = sym (passes-judge refuse (Ok (header_of b)) (shape_tests b (header_of b)) passes) ∙ e in
     let eq : header_of b ≡ h = cc in
     subst (SoundShape b) eq (passes_sound b (header_of b) refl passes)
 
@@ -352,14 +352,19 @@ pub sound_lengths : (b : List ℕ) (h : Header) → SoundShape b h → Lengths b
 sound_lengths = lengths
 
 -- Nothing else is refused.
-pub shape_sound : (b : List ℕ) (h : Header) → SoundShape b h → shape_of b ≡ Sound h
+pub shape_sound : (b : List ℕ) (h : Header) → SoundShape b h → shape_of b ≡ Ok h
 unfolding shape_of header_shape
 shape_sound b h g =
     let at : SoundShape b (header_of b) = subst (SoundShape b) g.header g in
-    passes-judge refuse (Sound (header_of b)) (shape_tests b (header_of b)) (sound_passes b (header_of b) at) ∙ ap Sound (sym g.header)
+    passes-judge refuse (Ok (header_of b)) (shape_tests b (header_of b)) (sound_passes b (header_of b) at) ∙ ap Ok (sym g.header)
 
-pub sound_at : (b : List ℕ) (s : Shape) (h : Header) → s ≡ shape_of b → s ≡ Sound h → SoundShape b h
-sound_at b s h e u = sound_shape b h (sym e ∙ u)
+pub sound_at : (b : List ℕ) (h : Header) (s : Result Header Refusal) → s ≡ header_shape b (header_of b) → s ≡ Ok h → shape_of b ≡ Ok h
+unfolding shape_of
+sound_at b h s e u = sym e ∙ u
+
+-- A docket's bytes and header are of sound shape.
+pub docket_sound : (d : Docket) → SoundShape d.bytes.now d.header
+docket_sound d = sound_shape d.bytes.now d.header d.sound
 
 pub sound_rules : (b : List ℕ) (h : Header) → SoundShape b h → SoundRules h.sizes (sections_of b h).rules
 sound_rules b h s =

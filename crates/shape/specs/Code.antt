@@ -1,21 +1,15 @@
 -- What the functions of the shape answer, beside the tests themselves, and the lengths that callers use.
-use Rattle.std.specs.Prelude.{◌≡◌, Bool, not, cond, ◌||◌, ◌&&◌, List, [], ℕ, ◌+◌, ◌*◌, ◌%◌, ◌≤◌, ◌<◌, ltb, length}
+use Rattle.std.specs.Prelude.{◌≡◌, Bool, not, cond, ◌||◌, ◌&&◌, List, [], ℕ, ◌+◌, ◌*◌, ◌%◌, ◌≤◌, ◌<◌, ltb, length, Result, Ok, Err}
 use Rattle.theory.specs.Below.{any_below}
 use Rattle.theory.specs.Judge.{judge}
 use Rattle.format.specs.Format.{states_length, rules_length, layers_length, nodes_length, leaves_length, sections, sections_of}
-use Rattle.format.specs.Format.{is_input, rule_p, rule_q, rule_p', rule_q', rule_of}
+use Rattle.format.specs.Format.{rule_p, rule_q, rule_p', rule_q', rule_of}
 use Rattle.format.specs.declared.Sizes.{Sizes}
 use Rattle.format.specs.declared.Header.{Header}
 use Rattle.format.specs.declared.Rule.{Rule}
-use Rattle.shape.specs.Shape.{refusal, bad_record, bad_rule, same_before, same_after, in_layer, too_large, section_tests}
-use Rattle.shape.specs.declared.Property.{Property}
-use Rattle.shape.specs.declared.Property.TheVariants as property
-use Rattle.shape.specs.declared.Property.TheVariants.{State, Input, Layer, Weight}
-use Rattle.shape.specs.declared.Refusal.{Refusal}
-use Rattle.shape.specs.declared.Tested.{Tested}
-use Rattle.shape.specs.declared.Tested.TheVariants.{Passed, Failed}
-use Rattle.shape.specs.declared.Shape.{Shape}
-use Rattle.shape.specs.declared.Shape.TheVariants.{Sound, Refused}
+use Rattle.shape.specs.Shape.{same_before, same_after, in_layer, section_tests}
+use Rattle.shape.specs.declared.sound.Docket.{Docket}
+use Rattle.refusals.specs.Refusal.{Refusal, refusal}
 
 -- Rules x and y have the same before pair and, if whole, the same after pair.
 abbrev pub same_fields : Bool → Rule → Rule → Bool
@@ -29,14 +23,6 @@ alike rules whole y e = same_fields whole (rule_of rules e) y
 unfoldable pub again : List ℕ → Bool → ℕ → Bool
 again rules whole r = any_below r (alike rules whole (rule_of rules r))
 
--- What holds answers, of the section that the property is about.
-abbrev pub holds_of : List ℕ → Sizes → Property → ℕ → Bool
-holds_of x z State s = bad_record z x s
-holds_of x z Input s = is_input z x s
-holds_of x z property.Rule r = bad_rule z x r
-holds_of x z (Layer l) r = in_layer x l r
-holds_of x z (Weight l) s = too_large z.states x l s
-
 -- The mark of rule r: a number below 4096 that is the same for rules that are alike. If whole, and where states are below 64,
 -- it differs for two after pairs of one before pair, and for other rules it seldom agrees.
 abbrev pub mark_of : List ℕ → Bool → ℕ → ℕ
@@ -49,23 +35,14 @@ mark_of rules whole r =
 unfoldable pub used_below : List ℕ → ℕ → ℕ → Bool
 used_below rules n l = ltb l 64 && any_below n (in_layer rules l)
 
--- The test of number n fails at place k.
-abbrev pub failed : ℕ → ℕ → Tested
-failed n k = Failed (refusal n k)
-
 -- What section_tests answers.
-unfoldable pub tested_of : Sizes → List ℕ → List ℕ → List ℕ → Tested
-tested_of z states rules layers = judge failed Passed (section_tests z (sections states rules layers [] []))
+unfoldable pub tested_of : Sizes → List ℕ → List ℕ → List ℕ → Result (Unit {0}) Refusal
+tested_of z states rules layers = judge (λ n k. Err (refusal n k)) (Ok tt) (section_tests z (sections states rules layers [] []))
 
--- What section_tests finds, as a shape with header h.
-abbrev pub as_shape : Header → Tested → Shape
-as_shape h Passed = Sound h
-as_shape h (Failed r) = Refused r
-
--- The refusal of a refused shape; 0, 0 for a sound one.
-abbrev pub refusal_of : Shape → Refusal
-refusal_of (Sound h) = refusal 0 0
-refusal_of (Refused r) = r
+-- The header of a docket that passes tests 1 to 8; a refusal is passed on.
+abbrev pub header_in : Result Docket Refusal → Result Header Refusal
+header_in (Ok d) = Ok d.header
+header_in (Err r) = Err r
 
 -- The sections have the lengths that their records need.
 pub record Lengths (b : List ℕ) (h : Header) : Type 0 where

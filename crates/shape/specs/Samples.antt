@@ -1,11 +1,11 @@
 -- Dockets and what tests 1 to 8 say of them, by computation.
-use Rattle.std.specs.Prelude.{◌≡◌, refl, List, [], ◌∷◌, ◌++◌, ℕ, take, set}
+use Rattle.std.specs.Prelude.{◌≡◌, refl, List, [], ◌∷◌, ◌++◌, ℕ, take, set, Result, Ok, Err}
 use Rattle.format.specs.Samples.{reading, broadcast, majority, two_outcomes, seeded, quorum}
 use Rattle.theory.specs.Below.{first_below}
 use Rattle.theory.specs.Order.{lex_less}
 use Rattle.shape.specs.Shape.{nth, count_faults, bad_state, repeats, out_of_order, bad_layer, header_shape, shape_of}
-use Rattle.shape.specs.declared.Shape.{Shape}
-use Rattle.shape.specs.declared.Shape.TheVariants.{Sound, Refused}
+use Rattle.format.specs.declared.Header.{Header}
+use Rattle.refusals.specs.Refusal.{Refusal}
 
 -- The names that computed cases of tests 1 to 8 unfold.
 unfoldable pub shaping : ℕ
@@ -13,9 +13,9 @@ unfolding reading lex_less shape_of header_shape bad_state repeats out_of_order 
 shaping = 0
 
 -- Number and place: 0, 0 for a sound shape.
-abbrev pub said : Shape → ℕ × ℕ
-said (Sound h) = (0, 0)
-said (Refused r) = (r.number, r.place)
+abbrev pub said : Result Header Refusal → ℕ × ℕ
+said (Ok h) = (0, 0)
+said (Err r) = (r.number, r.place)
 
 -- Majority with another rule 3, in layer 1. Rule 1, in layer 0, is 0 3 to 0 2.
 abbrev other_rule : ℕ → ℕ → ℕ → ℕ → List ℕ

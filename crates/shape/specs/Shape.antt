@@ -1,6 +1,6 @@
 -- Tests 1 to 8 of document 01, for either version (document 02, Job 4). Each can be laid beside its line of the table in "What
 -- a call says". Test 14 (document 02, Job 5) is one of them, tried between 7 and 8.
-use Rattle.std.specs.Prelude.{Bool, false, not, ◌||◌, ◌&&◌, List, [], ◌∷◌, ◌++◌, ℕ, zero, suc, ◌+◌, leb, ltb, eqb, length, get_or}
+use Rattle.std.specs.Prelude.{Bool, false, not, ◌||◌, ◌&&◌, List, [], ◌∷◌, ◌++◌, ℕ, zero, suc, ◌+◌, leb, ltb, eqb, length, get_or, Result, Ok, Err}
 use Rattle.theory.specs.Below.{any_below}
 use Rattle.theory.specs.Judge.{Test, only, judge}
 use Rattle.format.specs.Format.{header_of, states_length, rules_length, layers_length, nodes_length, leaves_length, Sections, sections_of}
@@ -8,13 +8,7 @@ use Rattle.format.specs.Format.{flags, is_input, fixed_of, rule_layer, rule_of, 
 use Rattle.format.specs.declared.Sizes.{Sizes}
 use Rattle.format.specs.declared.Header.{Header}
 use Rattle.format.specs.declared.Rule.{Rule}
-use Rattle.shape.specs.declared.Refusal.{Refusal}
-use Rattle.shape.specs.declared.Shape.{Shape}
-use Rattle.shape.specs.declared.Shape.TheVariants.{Sound, Refused}
-
--- A refusal's number and place.
-abbrev pub refusal : ℕ → ℕ → Refusal
-refusal n k = record { number = n; place = k }
+use Rattle.refusals.specs.Refusal.{Refusal, refusal}
 
 -- ---- Tests of the header
 
@@ -157,14 +151,14 @@ abbrev pub shape_tests : List ℕ → Header → List Test
 shape_tests b h = header_tests b h ++ section_tests h.sizes (sections_of b h)
 
 -- What tests 1 to 8 find: the header of bytes that pass, or the refusal.
-unfoldable pub header_shape : List ℕ → Header → Shape
-header_shape b h = judge (λ n k. Refused (refusal n k)) (Sound h) (shape_tests b h)
+unfoldable pub header_shape : List ℕ → Header → Result Header Refusal
+header_shape b h = judge (λ n k. Err (refusal n k)) (Ok h) (shape_tests b h)
 
 -- What tests 1 to 8 find of the bytes b.
-unfoldable pub shape_of : List ℕ → Shape
+unfoldable pub shape_of : List ℕ → Result Header Refusal
 shape_of b = header_shape b (header_of b)
 
 -- What follows for a docket that passes tests 1 to 8, by its header; a refusal of these is passed back.
-abbrev pub by_shape : {A : Type 0} → (Refusal → A) → (Header → A) → Shape → A
-by_shape refuse f (Sound h) = f h
-by_shape refuse f (Refused r) = refuse r
+abbrev pub by_shape : {A : Type 0} → (Refusal → A) → (Header → A) → Result Header Refusal → A
+by_shape refuse f (Ok h) = f h
+by_shape refuse f (Err r) = refuse r

@@ -75,6 +75,10 @@ end_remainder m k s y =
       losses = bit one * (10000 - y);
     }
 
+-- Two shares together.
+abbrev pub both_of : Share → Share → Share
+both_of a b = record { allowed = a.allowed && b.allowed; gains = b.gains + a.gains; losses = b.losses + a.losses }
+
 -- The shares at the start and at the two ends together.
 abbrev pub sum_of : Share → Share → Share → Share
 sum_of a b c =

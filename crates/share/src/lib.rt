@@ -2,14 +2,14 @@
 // weight is read with 10,000 added, so all numbers are unsigned. Every public function is total.
 #![tactic(auto)]
 
-ghost use Rattle.std.specs.Prelude.{◌≡◌, ◌+◌, ◌-◌, ◌*◌, ◌<◌};
+ghost use Rattle.std.specs.Prelude.{◌≡◌, ◌+◌, ◌-◌, ◌*◌, ◌^◌, ◌<◌};
 ghost use Rattle.theory.specs.Bool.{bit};
 ghost use Rattle.theory.specs.Remainder.{congruent};
 ghost use Rattle.format.specs.Code.{Value};
 ghost use Rattle.share.specs.Code.{relates_by, joined_of, times_of, known_of, start_share, end_share, start_remainder, end_remainder};
-ghost use Rattle.share.specs.Code.{sum_of, share_by, Few, ShareIs};
+ghost use Rattle.share.specs.Code.{both_of, sum_of, share_by, Few, ShareIs};
 
-// How a leaf closes: by sums, or by remainders on division by a modulus.
+// How a leaf closes: by sums, or by remainders on division by a modulus. It is no Option, as each case names a rule of its own.
 #[derive(Clone, Copy)]
 pub enum Closing {
     BySums,
@@ -24,14 +24,15 @@ pub struct Known {
     pub at_most_one: u64,
 }
 
-// The fixed agents of one state, and whether every start has only these there: it has some, and is no input.
+// The fixed agents of one state, and whether every start has only these there: it has some, and is no input. They are no
+// Option, as an input has fixed agents too.
 #[derive(Clone, Copy)]
 pub struct Fixed {
     pub agents: u16,
     pub only: bool,
 }
 
-// The share of one state.
+// The share of one state. It is no Option of the two sums, as the rule sums them over all states, allowed or not.
 #[derive(Clone, Copy)]
 pub struct Share {
     // Whether the facts allow its weights.
@@ -46,24 +47,14 @@ pub struct Share {
 pub fn distance(a: u64, b: u64) -> u64
     ensures { result ≡ (a - b) + (b - a) }
 {
-    if a < b {
-        return b - a;
-    }
-    a - b
+    a.abs_diff(b)
 }
 
 // Whether a and b are the same modulo m. Modulo 0 a number is the same as itself alone.
 fn same_modulo(m: u64, a: u64, b: u64) -> bool
     ensures { result ≡ congruent m a b }
 {
-    let apart = distance(a, b);
-    if apart == 0 {
-        return true;
-    }
-    if m == 0 {
-        return false;
-    }
-    apart % m == 0
+    distance(a, b).is_multiple_of(m)
 }
 
 // Whether a is at most b; by remainders, whether they are the same modulo m.
@@ -80,13 +71,7 @@ pub fn relates(by: Closing, a: u64, b: u64) -> bool
 fn excess(counts: bool, a: u64, b: u64) -> u64
     ensures { Value (a + 1) (bit counts * (a - b)) result }
 {
-    if !counts {
-        return 0;
-    }
-    if a < b {
-        return 0;
-    }
-    a - b
+    if counts { a.saturating_sub(b) } else { 0 }
 }
 
 // The share of a state that joins the sum n times: y is what joins, plus b.
@@ -95,21 +80,10 @@ fn joined(allowed: bool, n: u16, b: u64, y: u64) -> Share
     requires y_bound { y < 17179869184 }
     ensures { ShareIs (65536 * (b + y)) (joined_of allowed n b y) result }
 {
-    if b < y {
-        let over = y - b;
-        let losses = (n as u64) * over;
-        return Share {
-            allowed,
-            gains: 0,
-            losses,
-        };
-    }
-    let under = b - y;
-    let gains = (n as u64) * under;
     Share {
         allowed,
-        gains,
-        losses: 0,
+        gains: u64::from(n) * b.saturating_sub(y),
+        losses: u64::from(n) * y.saturating_sub(b),
     }
 }
 
@@ -117,16 +91,13 @@ fn joined(allowed: bool, n: u16, b: u64, y: u64) -> Share
 fn times(known: Known, fixed: Fixed, i: usize) -> u16
     ensures { result ≡ times_of known fixed i }
 {
-    if 0 < fixed.agents {
-        if bits::has(known.absent, i) {
-            return 0;
-        }
-        return fixed.agents;
+    if fixed.agents == 0 {
+        u16::from(bits::has(known.present, i))
+    } else if bits::has(known.absent, i) {
+        0
+    } else {
+        fixed.agents
     }
-    if bits::has(known.present, i) {
-        return 1;
-    }
-    0
 }
 
 // How many agents state i is known to hold at the start: its fixed ones, where it is no input and not absent; else none.
@@ -134,10 +105,7 @@ fn known_agents(known: Known, fixed: Fixed, i: usize) -> u16
     ensures { result ≡ known_of known fixed i }
 {
     let exactly = !bits::has(known.absent, i) & fixed.only;
-    if !exactly {
-        return 0;
-    }
-    fixed.agents
+    if exactly { fixed.agents } else { 0 }
 }
 
 // The share of state i at the start, by sums: y is what joins the upper sum, plus b.
@@ -155,28 +123,30 @@ pub fn start_share(known: Known, fixed: Fixed, i: usize, b: u64, y: u64) -> Shar
     )
 }
 
-// The share of state i at an end, by sums: y is its weight there, plus 10,000.
+// The share of state i at an end, by sums: y is its weight there, plus 10,000. By remainders there is a function beside
+// each of these two: the tests and the counts differ, and what they have in common is in `joined` and `excess`. It goes by
+// cases, as one expression of all tests took up to 20 % more instructions of a check.
 pub fn end_share(known: Known, i: usize, y: u64) -> Share
     ensures { ShareIs (20000 + y) (end_share known i y) result }
 {
     if 10000 <= y {
-        return Share {
+        Share {
             allowed: true,
             gains: excess(bits::has(known.present, i), y, 10000),
             losses: 0,
-        };
-    }
-    if bits::has(known.absent, i) {
-        return Share {
+        }
+    } else if bits::has(known.absent, i) {
+        Share {
             allowed: true,
             gains: 0,
             losses: 0,
-        };
-    }
-    Share {
-        allowed: bits::has(known.at_most_one, i),
-        gains: 0,
-        losses: 10000 - y,
+        }
+    } else {
+        Share {
+            allowed: bits::has(known.at_most_one, i),
+            gains: 0,
+            losses: 10000 - y,
+        }
     }
 }
 
@@ -208,16 +178,25 @@ fn end_remainder(m: u64, known: Known, i: usize, y: u64) -> Share
     }
 }
 
+// Two shares together.
+pub fn both(a: Share, b: Share) -> Share
+    requires gains { b.gains + a.gains < 2 ^ 64 }
+    requires losses { b.losses + a.losses < 2 ^ 64 }
+    ensures { result ≡ both_of a b }
+{
+    Share {
+        allowed: a.allowed & b.allowed,
+        gains: b.gains + a.gains,
+        losses: b.losses + a.losses,
+    }
+}
+
 // The shares at the start and at the two ends together.
 fn together(a: Share, b: Share, c: Share) -> Share
     requires { Few 17179869184 a × Few 17179869184 b × Few 17179869184 c }
     ensures { ShareIs 68719476736 (sum_of a b c) result }
 {
-    Share {
-        allowed: a.allowed & b.allowed & c.allowed,
-        gains: b.gains + c.gains + a.gains,
-        losses: b.losses + c.losses + a.losses,
-    }
+    both(both(a, b), c)
 }
 
 // The share of state i at the start and at both ends, by its fixed agents and by what is known there; y1 and y2 are its
@@ -234,8 +213,8 @@ pub fn share_by(
 ) -> Share
     ensures { ShareIs 68719476736 (share_by by fixed start first second i y1 y2) result }
 {
-    let v = y1 as u64;
-    let w = y2 as u64;
+    let v = u64::from(y1);
+    let w = u64::from(y2);
     let both = v + w;
     match by {
         Closing::BySums => {

@@ -5,27 +5,17 @@
 ghost use Rattle.std.specs.Prelude.{◌≡◌, ◌+◌, ◌≤◌};
 ghost use Rattle.theory.specs.Sheet.{sheet_answer, first_walk, second_walk};
 ghost use Rattle.format.specs.Format.{sections_of, protocol_of};
-ghost use Rattle.shape.specs.Shape.{refusal};
-ghost use Rattle.shape.specs.Sound.{SoundShape};
 ghost use Rattle.shape.specs.Code.{SoundRules};
 ghost use Rattle.threshold.specs.Numbers.{sheet_limit};
 ghost use Rattle.tree.specs.Code.{walked_of};
 ghost use Rattle.sheet.specs.Sheet.{tree_sizes, sheet_in, walked_sheet, sheet_check, check_sheet_of};
 ghost use Rattle.sheet.specs.Code.{threshold_for, walk_for};
 
-use checker::Checked;
-use format::{Header, Sizes};
-use shape::Refusal;
+use format::Sizes;
+use refusals::{Fault, Refusal};
+use shape::Docket;
 use sheetshape::SheetHeader;
 use threshold::{Leaves, Threshold};
-use tree::Walk;
-
-// What the check of a docket with its sheet finds.
-#[derive(Clone, Copy)]
-pub enum SheetChecked {
-    Accepted,
-    Refused(Refusal),
-}
 
 // The limit behind n numbers, plus 2,147,483,648.
 pub fn sheet_limit(numbers: &[u8], n: u16) -> u32
@@ -65,7 +55,7 @@ fn walk_sheet(
     leaves: &[u8],
     z: Sizes,
     second: bool,
-) -> Walk
+) -> Result<u16, Refusal>
     requires { SoundRules z rules.now }
     ensures { walked_of result ≡ walk_for (protocol_of z states.now rules.now) z nodes.now
         numbers.now leaves.now second }
@@ -90,19 +80,14 @@ fn tree_sizes(z: Sizes, nodes: u16, leaves: u16) -> Sizes
     }
 }
 
-// A refusal whose place is numbered on from n.
-fn later(r: Refusal, n: u16) -> Refusal
-    requires { r.place ≤ 65535 }
-    ensures { result ≡ refusal r.number (n + r.place) }
-{
-    Refusal {
-        number: r.number,
-        place: (n as u32) + r.place,
-    }
-}
-
 // The first tree, before the second is looked at.
-fn first_walk(states: &[u8], rules: &[u8], sheet: &[u8], k: SheetHeader, z: Sizes) -> Walk
+fn first_walk(
+    states: &[u8],
+    rules: &[u8],
+    sheet: &[u8],
+    k: SheetHeader,
+    z: Sizes,
+) -> Result<u16, Refusal>
     requires { SoundRules z rules.now }
     ensures { walked_of result ≡ first_walk (protocol_of z states.now rules.now) (sheet_in z sheet.now k) }
 {
@@ -118,7 +103,13 @@ fn first_walk(states: &[u8], rules: &[u8], sheet: &[u8], k: SheetHeader, z: Size
 }
 
 // The second tree, as if there were no other.
-fn second_walk(states: &[u8], rules: &[u8], sheet: &[u8], k: SheetHeader, z: Sizes) -> Walk
+fn second_walk(
+    states: &[u8],
+    rules: &[u8],
+    sheet: &[u8],
+    k: SheetHeader,
+    z: Sizes,
+) -> Result<u16, Refusal>
     requires { SoundRules z rules.now }
     ensures { walked_of result ≡ second_walk (protocol_of z states.now rules.now) (sheet_in z sheet.now k) }
 {
@@ -133,49 +124,46 @@ fn second_walk(states: &[u8], rules: &[u8], sheet: &[u8], k: SheetHeader, z: Siz
     )
 }
 
-// Tests 12 and 13 of the first tree, then of the second.
-fn trees_check(states: &[u8], rules: &[u8], sheet: &[u8], k: SheetHeader, z: Sizes) -> SheetChecked
+// Tests 12 and 13 of the first tree, then of the second, whose nodes are numbered on.
+fn trees_check(
+    states: &[u8],
+    rules: &[u8],
+    sheet: &[u8],
+    k: SheetHeader,
+    z: Sizes,
+) -> Result<(), Refusal>
     requires { SoundRules z rules.now }
     ensures { result ≡ walked_sheet (sheet_answer (protocol_of z states.now rules.now)
         (sheet_in z sheet.now k)) }
 {
-    let first = first_walk(states, rules, sheet, k, z);
-    let Walk::Next(_) = first else {
-        let refusal = tree::refusal_of(first);
-        return SheetChecked::Refused(refusal);
-    };
-    let second = second_walk(states, rules, sheet, k, z);
-    let Walk::Next(_) = second else {
-        let refusal = later(tree::refusal_of(second), k.first);
-        return SheetChecked::Refused(refusal);
-    };
-    SheetChecked::Accepted
+    first_walk(states, rules, sheet, k, z)?;
+    match second_walk(states, rules, sheet, k, z) {
+        Ok(_) => Ok(()),
+        Err(r) => Err(r.later(k.first)),
+    }
 }
 
-// Test 15, then 12 and 13, with a docket that has header h and is accepted.
-fn sheet_check(docket: &[u8], h: Header, sheet: &[u8]) -> SheetChecked
-    requires { SoundShape docket.now h }
-    ensures { result ≡ sheet_check h.sizes (sections_of docket.now h) sheet.now }
+// Test 15, then 12 and 13, with a docket that is accepted.
+fn sheet_check(docket: Docket<'_>, sheet: &[u8]) -> Result<(), Refusal>
+    ensures { result ≡ sheet_check docket.entry.header.sizes (sections_of docket.entry.bytes.now docket.entry.header) sheet.now }
 {
-    let states = format::states_section(docket, h);
-    let rules = format::rules_section(docket, h);
+    let z = docket.header.sizes;
+    let states = format::states_section(docket.bytes, docket.header);
+    let rules = format::rules_section(docket.bytes, docket.header);
     let k = sheetshape::read_sheet_header(sheet);
-    if sheetshape::sheet_bad(states, sheet, k, h.sizes) {
-        return SheetChecked::Refused(Refusal {
-            number: 15,
-            place: 0,
-        });
-    }
-    trees_check(states, rules, sheet, k, h.sizes)
+    Fault::Sheet.when(sheetshape::sheet_bad(states, sheet, k, z))?;
+    trees_check(states, rules, sheet, k, z)
 }
 
 // The check of a docket with its sheet.
-pub fn check_sheet(docket: &[u8], sheet: &[u8]) -> SheetChecked
+pub fn check_sheet(docket: &[u8], sheet: &[u8]) -> Result<(), Refusal>
     ensures { result ≡ check_sheet_of docket.now sheet.now }
 {
-    let checked = checker::check(docket);
-    match checked {
-        Checked::Accepted(_) => sheet_check(docket, format::read_header(docket), sheet),
-        Checked::Refused(r) => SheetChecked::Refused(r),
+    match shape::read_shape(docket) {
+        Ok(docket) => {
+            checker::certificate(docket)?;
+            sheet_check(docket, sheet)
+        }
+        Err(r) => Err(r),
     }
 }

@@ -2,7 +2,7 @@
 #![tactic(auto)]
 
 ghost use Rattle.std.specs.Prelude.{◌≡◌};
-ghost use Rattle.theory.specs.Below.{first_below};
+ghost use Rattle.theory.specs.Below.Ends.{first_where};
 ghost use Rattle.format.specs.Code.{Value};
 ghost use Rattle.sheetshape.specs.SheetShape.{sheet_header, numbers_length, leaves_length, numbers_in, first_nodes, second_nodes, leaves_in};
 ghost use Rattle.sheetshape.specs.SheetShape.{wrong_length, wrong_counts, wrong_offsets, bad_number, bad_sheet_leaf, sheet_fault};
@@ -130,18 +130,11 @@ fn number_bad(states: &[u8], numbers: &[u8], z: Sizes, s: u16) -> bool
     !input & (number != 0)
 }
 
-// The first state whose number is bad, or the number of states.
-fn number_fault(states: &[u8], numbers: &[u8], z: Sizes) -> u16
-    ensures { result ≡ first_below z.states (bad_number z states.now numbers.now) }
+// The first state whose number is bad.
+fn number_fault(states: &[u8], numbers: &[u8], z: Sizes) -> Option<u16>
+    ensures { result ≡ first_where z.states (bad_number z states.now numbers.now) }
 {
-    let mut s: u16 = 0;
-    while s < z.states {
-        if number_bad(states, numbers, z, s) {
-            return s;
-        }
-        s += 1;
-    }
-    s
+    (0..z.states).find(|&s| number_bad(states, numbers, z, s))
 }
 
 // Whether leaf l has a weight or a multiplier outside its limits.
@@ -151,21 +144,14 @@ fn leaf_bad(leaves: &[u8], z: Sizes, l: u16) -> bool
     let one = threshold::leaf_bytes(leaves, z, l);
     let state = leaf::first_fault(one, z, 0, 0);
     let multiplier = threshold::multiplier(one, z);
-    (state < z.states) | (10000 < multiplier)
+    state.is_some() | (10000 < multiplier)
 }
 
-// The first leaf of n that has a weight or a multiplier outside its limits, or n.
-fn leaf_fault(leaves: &[u8], z: Sizes, n: u16) -> u16
-    ensures { result ≡ first_below n (bad_sheet_leaf z.states leaves.now) }
+// The first leaf of n that has a weight or a multiplier outside its limits.
+fn leaf_fault(leaves: &[u8], z: Sizes, n: u16) -> Option<u16>
+    ensures { result ≡ first_where n (bad_sheet_leaf z.states leaves.now) }
 {
-    let mut l: u16 = 0;
-    while l < n {
-        if leaf_bad(leaves, z, l) {
-            return l;
-        }
-        l += 1;
-    }
-    l
+    (0..n).find(|&l| leaf_bad(leaves, z, l))
 }
 
 // Test 15: whether the sheet breaks a rule of its bytes.
@@ -176,7 +162,7 @@ pub fn sheet_bad(states: &[u8], sheet: &[u8], k: SheetHeader, z: Sizes) -> bool
     if header {
         return true;
     }
-    let state = number_fault(states, numbers_section(sheet, k), z);
-    let leaf = leaf_fault(leaves_section(sheet, k), z, k.leaves);
-    (state < z.states) | (leaf < k.leaves)
+    let numbers = numbers_section(sheet, k);
+    let leaves = leaves_section(sheet, k);
+    number_fault(states, numbers, z).is_some() || leaf_fault(leaves, z, k.leaves).is_some()
 }

@@ -17,41 +17,32 @@ pub fn input_count(states: &[u8], z: Sizes) -> u16
     ensures { result ≡ inputCount (protocol_of z states.now []) }
 {
     let mut n: u16 = 0;
-    let mut s: u16 = 0;
-    while s < z.states {
+    for s in 0..z.states {
         if format::is_input(states, z, s) {
             n += 1;
         }
-        s += 1;
     }
     n
 }
 
-// The first input from state `from` on; the number of states where there is none.
+// The first input from state `from` on; the number of states where there is none. No Option: the callers know that there is one.
 fn next_input(states: &[u8], z: Sizes, from: u16) -> u16
     requires { from ≤ z.states }
     ensures { result ≡ first_from from z.states (is_input z states.now) }
 {
-    let mut s = from;
-    while s < z.states {
-        if format::is_input(states, z, s) {
-            return s;
-        }
-        s += 1;
-    }
-    s
+    (from..z.states)
+        .find(|s| format::is_input(states, z, *s))
+        .unwrap_or(z.states)
 }
 
 // One past the last input; 0 where there is none.
 fn inputs_end(states: &[u8], z: Sizes) -> u16
     ensures { result ≡ end_below z.states (is_input z states.now) }
 {
-    let mut e = z.states;
-    while 0 < e {
-        if format::is_input(states, z, e - 1) {
-            return e;
+    for s in (0..z.states).rev() {
+        if format::is_input(states, z, s) {
+            return s + 1;
         }
-        e -= 1;
     }
     0
 }
@@ -60,19 +51,17 @@ fn inputs_end(states: &[u8], z: Sizes) -> u16
 fn has_spare(states: &[u8], z: Sizes, counts: &[u32], s: u16) -> bool
     ensures { result ≡ has_spare (protocol_of z states.now []) counts.now s }
 {
-    (format::fixed_agents(states, z, s) as u32) < counts::count(counts, s as usize)
+    u32::from(format::fixed_agents(states, z, s)) < counts::count(counts, usize::from(s))
 }
 
 // One past the last state below `last` that has more than its fixed agents; 0 where there is none.
 fn givers_end(states: &[u8], z: Sizes, counts: &[u32], last: u16) -> u16
     ensures { result ≡ end_below last (has_spare (protocol_of z states.now []) counts.now) }
 {
-    let mut e = last;
-    while 0 < e {
-        if has_spare(states, z, counts, e - 1) {
-            return e;
+    for s in (0..last).rev() {
+        if has_spare(states, z, counts, s) {
+            return s + 1;
         }
-        e -= 1;
     }
     0
 }
@@ -82,10 +71,8 @@ fn put_fixed(states: &[u8], z: Sizes, counts: &mut [u32])
     requires { length counts.old ≡ z.states }
     ensures { counts.new ≡ table z.states (fixed_of z states.now) }
 {
-    let mut s: u16 = 0;
-    while s < z.states {
-        counts[s as usize] = format::fixed_agents(states, z, s) as u32;
-        s += 1;
+    for s in 0..z.states {
+        counts[usize::from(s)] = u32::from(format::fixed_agents(states, z, s));
     }
 }
 

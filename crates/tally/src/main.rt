@@ -9,21 +9,16 @@ ghost use Rattle.std.specs.Prelude.{◌≡◌, ◌≤◌, min, length, IfOk};
 
 use std::io;
 use std::io::{Print, Read};
-use totals::Tallied;
 
 // Prints the first n counts, each with a space before it, and answers how many there are.
 fn print_counts(rt: &impl Print, counts: &[u32], n: u16) -> io::Result<usize>
     ensures { IfOk result (λ k. k ≡ min n (length counts.now)) }
 {
-    let mut s: usize = 0;
-    while s < counts.len() {
-        if (n as usize) <= s {
-            break;
-        }
-        print!(rt; " {}", counts[s])?;
-        s += 1;
+    let end = usize::from(n).min(counts.len());
+    for count in &counts[..end] {
+        print!(rt; " {count}")?;
     }
-    Ok(s)
+    Ok(end)
 }
 
 // Reads n and the docket, and answers how many bytes of the docket there are.
@@ -44,11 +39,11 @@ fn main(rt: HostRuntime) -> io::Result<()> {
     };
     let sheet = totals::tally(&docket[..end], n[0]);
     match sheet.tallied {
-        Tallied::Counted(t) => {
+        Ok(t) => {
             print!(rt; "{} {} {} {}", t.starts, t.zeros, t.ones, t.most)?;
             print_counts(&rt, &sheet.first, t.states)?;
             println!(rt)
         }
-        Tallied::Refused(r) => println!(rt; "refused {} {}", r.number, r.place),
+        Err(r) => println!(rt; "{r}"),
     }
 }

@@ -2,6 +2,7 @@
 -- that fits.
 use Rattle.std.specs.Prelude.{◌≡◌, Bool, true, false, List, [], ◌∷◌, ◌++◌, ℕ, ◌<◌, ltb}
 use Rattle.theory.specs.Below.{Clear, first_below}
+pub mod Found
 
 -- A test: the number of its refusal, how many places it has, and which of them are bad.
 pub record Test : Type 0 where

@@ -1,5 +1,5 @@
 -- How the leaves of a tree close, over the bytes, and the leaf rule of a sheet in the parts in which the code goes through it.
-use Rattle.std.specs.Prelude.{Bool, false, cond, ◌&&◌, List, ℕ, ◌+◌, ◌-◌, ◌*◌}
+use Rattle.std.specs.Prelude.{Bool, false, cond, List, ℕ, ◌+◌, ◌-◌, ◌*◌}
 use Rattle.theory.specs.Protocol.{Protocol}
 use Rattle.theory.specs.Facts.{Facts}
 use Rattle.theory.specs.Leaf.{leaf_closes}
@@ -9,7 +9,7 @@ use Rattle.theory.specs.Sheet as theory
 use Rattle.theory.specs.Sheet.{sheet_closes}
 use Rattle.format.specs.Format.{end_weight, weights_of}
 use Rattle.format.specs.declared.Sizes.{Sizes}
-use Rattle.share.specs.Code.{start_share, end_share}
+use Rattle.share.specs.Code.{both_of, start_share, end_share}
 use Rattle.share.specs.declared.Known.{Known}
 use Rattle.share.specs.declared.Share.{Share}
 use Rattle.leaf.specs.Code.{fixed_at}
@@ -47,10 +47,6 @@ closes_modulo_for P z leaves (OfSheet t) m F l = false
 -- The bias of y + k × a.
 abbrev pub bias_of : ℕ → ℕ
 bias_of k = 10000 + k * 32768
-
--- The shares at the start and at the end together.
-abbrev pub both_of : Share → Share → Share
-both_of a b = record { allowed = a.allowed && b.allowed; gains = b.gains + a.gains; losses = b.losses + a.losses }
 
 -- The share of state s in the leaf with these bytes and the multiplier k, by what is known at the start and at the end.
 unfoldable pub share_of : Threshold → Sizes → List ℕ → List ℕ → List ℕ → Known → Known → ℕ → ℕ → Share

@@ -8,9 +8,9 @@ ghost use Rattle.format.specs.Bytes.{le16};
 ghost use Rattle.format.specs.Code.{Value};
 ghost use Rattle.format.specs.Format.{protocol_of};
 ghost use Rattle.facts.specs.Code.{facts_of};
-ghost use Rattle.share.specs.Code.{Few, ShareIs};
+ghost use Rattle.share.specs.Code.{ShareIs};
 ghost use Rattle.threshold.specs.Numbers.{sheet_number, leaf_in, sheet_weight, multiplier_of};
-ghost use Rattle.threshold.specs.Code.{threshold_of, both_of, share_of, closes_for, moduli_for, closes_modulo_for};
+ghost use Rattle.threshold.specs.Code.{threshold_of, share_of, closes_for, moduli_for, closes_modulo_for};
 
 use facts::Facts;
 use format::Sizes;
@@ -24,7 +24,8 @@ pub struct Threshold {
     pub minus: u32,
 }
 
-// Whose leaves a tree has: those of a docket, or those of a claim sheet, which close for a threshold.
+// Whose leaves a tree has: those of a docket, or those of a claim sheet, which close for a threshold. It is no Option, as each
+// case names a rule of its own.
 #[derive(Clone, Copy)]
 pub enum Leaves {
     OfDocket,
@@ -74,18 +75,6 @@ fn multiple(k: u16, n: u32) -> u64
     (k as u64) * (n as u64)
 }
 
-// The shares at the start and at the end together.
-fn both(a: Share, b: Share) -> Share
-    requires { Few 562949953421312 a × Few 562949953421312 b }
-    ensures { ShareIs 1125899906842624 (both_of a b) result }
-{
-    Share {
-        allowed: a.allowed & b.allowed,
-        gains: b.gains + a.gains,
-        losses: b.losses + a.losses,
-    }
-}
-
 // The share of state s in a leaf, whose bytes are lent, with the multiplier k.
 fn share_at(
     t: Threshold,
@@ -107,7 +96,7 @@ fn share_at(
     let sum = (y as u64) + multiple(k, a);
     let first = share::start_share(start, fixed, s as usize, bias, sum);
     let last = share::end_share(end, s as usize, y as u64);
-    both(first, last)
+    share::both(first, last)
 }
 
 // Whether leaf l closes on the facts, for the threshold.
@@ -134,15 +123,13 @@ fn sheet_closes(
     let k = multiplier(one, z);
     let mut gains: u64 = 0;
     let mut losses: u64 = 0;
-    let mut s: u16 = 0;
-    while s < z.states {
+    for s in 0..z.states {
         let share = share_at(t, start, end, states, numbers, one, z, k, s);
         if !share.allowed {
             return false;
         }
         gains += share.gains;
         losses += share.losses;
-        s += 1;
     }
     let upper = losses + multiple(k, t.minus);
     let lower = gains + multiple(k, t.plus);

@@ -1,8 +1,7 @@
 -- What the functions of the totals need. Assumes nothing.
-use Rattle.std.specs.Prelude.{◌≡◌, refl, Bool, true, false, not, List, get_or}
+use Rattle.std.specs.Prelude.{◌≡◌, refl, Bool, true, false, not, List, Option, Result}
 use Rattle.std.proofs.Math.Path.{sym, ap, subst}
 use Rattle.std.proofs.Common.{◌∙◌, true≢false, mul-le-mul_left}
-use Rattle.std.specs.Bool.{beq}
 use Rattle.std.proofs.Math.Logic.{by_cases}
 use Prim.Native.Nat.{ℕ, suc, ◌+◌, ◌-◌, ◌*◌, ◌≤◌, ◌<◌, max}
 use Rattle.std.proofs.Math.Decide.{dec_lt}
@@ -12,7 +11,7 @@ use Rattle.std.proofs.Math.ListN.{length}
 use Rattle.theory.specs.Bool.{bit}
 use Rattle.theory.proofs.Bool.Laws.{by_test, not_both, and_intro}
 use Rattle.theory.specs.Below.{greatest}
-use Rattle.theory.proofs.Below.Laws.{sum_const, sum_mono, greatest_at, Filled, filled_none, filled_more, filled_all}
+use Rattle.theory.proofs.Below.Laws.{sum_const, sum_mono, greatest_at}
 use Rattle.theory.specs.Protocol.{Protocol, size, terminal, after}
 use Rattle.theory.specs.Ladder.{Layers, spread, spreads}
 use Rattle.theory.specs.Machine.{Reply, ran, run, meetings_of, is_sized, is_within, admitted, run_numbers, run_reply, counts_after, rest_of}
@@ -20,35 +19,11 @@ use Rattle.theory.proofs.Machine.Laws.{admitted_sized, adds_on, reply_run, RunLi
 use Rattle.theory.proofs.Machine.Rest.{RunsTo, runs_to_none, runs_to_more, runs_to_bound, rest-steps, rest_stands}
 use Rattle.format.specs.Format.{protocol_in, layers_in, weight_in}
 use Rattle.format.specs.declared.Header.{Header}
-use Rattle.machine.specs.Code.{Replies, reply_of_run}
-use Rattle.machine.specs.declared.Ran.{Ran}
-use Rattle.machine.specs.declared.Ran.TheVariants as runs
-use Rattle.machine.specs.declared.Verdict.{Verdict}
-use Rattle.machine.specs.declared.Verdict.TheVariants as shown
-use Rattle.shape.specs.declared.Refusal.{Refusal}
+use Rattle.machine.specs.Code.{Replies}
+use Rattle.refusals.specs.Refusal.{Refusal}
 use Rattle.totals.specs.Totals.{steps_to_rest}
 use Rattle.totals.specs.Code.{Runs, Group, Turning, goes_on, agrees_on, added, with_start}
 use Rattle.totals.specs.declared.Totals.{Totals}
-
--- ---- One run
-
-module _ (a : Ran) (n : ℕ) where
-  pub steps_ran : (s : ℕ) (rests : Bool) → a ≡ runs.After s rests → n ≡ s → n ≡ meetings_of (reply_of_run a)
-  unfolding meetings_of
-  steps_ran s rests e q = q ∙ sym (ap (λ x. meetings_of (reply_of_run x)) e)
-
-  pub steps_refused : (r : Refusal) → a ≡ runs.Refused r → n ≡ 0 → n ≡ meetings_of (reply_of_run a)
-  unfolding meetings_of
-  steps_refused r e q = q ∙ sym (ap (λ x. meetings_of (reply_of_run x)) e)
-
--- ---- The verdict
-
-module _ (a : Verdict) (v u : Bool) (e : a ≡ shown.Agreed u) (n : ℕ) where
-  pub verdict_hit : beq u v ≡ true → n ≡ 1 → n ≡ bit (agrees_on v a)
-  verdict_hit t q = q ∙ sym (ap (λ x. bit (agrees_on v x)) e ∙ ap bit t)
-
-  pub verdict_miss : beq u v ≡ false → n ≡ 0 → n ≡ bit (agrees_on v a)
-  verdict_miss t q = q ∙ sym (ap (λ x. bit (agrees_on v x)) e ∙ ap bit t)
 
 -- ---- Runs until rest
 
@@ -167,20 +142,13 @@ module _ (b : List ℕ) (h : Header) (good : Runs b h) where
 
 pub ruleset turning = (turning_none, turning_more, turning_less, turning_length, turning_steps, turning_counts)
 
--- ---- A copy
-
-pub all_copied : (xs ys : List ℕ) (i : ℕ) → Filled (λ k. get_or xs k 0) i ys → length ys ≡ length xs → length xs ≤ i → ys ≡ xs
-all_copied xs ys i h long l = filled_all (λ k. get_or xs k 0) ys xs i h long (λ k b. refl) l
-
-pub ruleset copying = (filled_none, filled_more, all_copied)
-
 -- ---- One start more
 
 pub bit-most : (t : Bool) → bit t ≤ 1
 bit-most true = omega arith
 bit-most false = omega arith
 
-pub with_start_lem : (t : Totals) (steps : ℕ) (v : Verdict) (z o m : ℕ) → z ≡ bit (agrees_on false v) → o ≡ bit (agrees_on true v) → m ≡ max t.most steps
+pub with_start_lem : (t : Totals) (steps : ℕ) (v : Result (Option Bool) Refusal) (z o m : ℕ) → z ≡ bit (agrees_on false v) → o ≡ bit (agrees_on true v) → m ≡ max t.most steps
     → ◌≡◌ {A = Totals} (record { states = t.states; starts = t.starts + 1; zeros = t.zeros + z; ones = t.ones + o; most = m }) (with_start t steps v)
 unfolding added
 with_start_lem t steps v z o m hz ho hm = rw (hz, ho, hm)

@@ -1,5 +1,5 @@
 -- The starts counted one after the other: the totals of the first k of them, and the one that is next. Assumes nothing.
-use Rattle.std.specs.Prelude.{◌≡◌, refl, Bool, cond, List, [], ltb, length}
+use Rattle.std.specs.Prelude.{◌≡◌, refl, Bool, cond, List, [], ltb, length, Option, Result, Ok}
 use Rattle.std.proofs.Math.Path.{sym, ap}
 use Rattle.std.proofs.Common.{◌∙◌, subst, true≢false}
 use Rattle.std.proofs.Math.Bool.{true, false}
@@ -28,7 +28,7 @@ use Rattle.theory.proofs.Machine.Laws.{admit_on, admitted-after}
 use Rattle.format.specs.Format.{sections_of, protocol_of, protocol_in, layers_in, weight_in}
 use Rattle.format.specs.declared.Header.{Header}
 use Rattle.machine.specs.Calls.{verdict_as, verdict_answer}
-use Rattle.machine.specs.declared.Verdict.{Verdict}
+use Rattle.refusals.specs.Refusal.{Refusal}
 use Rattle.starts.specs.Code.{AtLeastFixed}
 use Rattle.totals.specs.Totals.{is_agreed, steps_to_rest, rests_on, resting_on, steps_at, totals_of, first_most, Allowed}
 use Rattle.totals.specs.Code.{Runs, Group, agrees_on, Room, added, with_start, needs_most, counted, Tallying}
@@ -40,7 +40,7 @@ use Rattle.totals.specs.declared.Totals.{Totals}
 pub group_same : (P : Protocol) (c d : List ℕ) → Group P c → d ≡ c → Group P d
 group_same P c d g e = subst (Group P) (sym e) g
 
-verdict_is : (v : Bool) (o : Output) → agrees_on v (verdict_as o) ≡ is_agreed v o
+verdict_is : (v : Bool) (o : Output) → agrees_on v (Ok (verdict_as o)) ≡ is_agreed v o
 verdict_is v (agreed u) = refl
 verdict_is v mixed = refl
 
@@ -60,13 +60,13 @@ module _ (b : List ℕ) (h : Header) (good : Runs b h) where
       steps_is : steps ≡ steps_to_rest P L w c
       steps_is = hs ∙ ap (steps_to_rest P L w) hd
 
-      pub counted_is : (e : List ℕ) (v : Verdict) (r : Totals) → e ≡ rest_of P L w d → v ≡ verdict_answer P e → r ≡ with_start t steps v → r ≡ counted P L w t c
+      pub counted_is : (e : List ℕ) (v : Result (Option Bool) Refusal) (r : Totals) → e ≡ rest_of P L w d → v ≡ verdict_answer P e → r ≡ with_start t steps v → r ≡ counted P L w t c
       unfolding rests_on verdict_answer rest_of
       counted_is e v r he hv hr =
           let to : e ≡ rest_of P L w c = he ∙ ap (rest_of P L w) hd in
           let on : admitted P e ≡ true = ap (admitted P) to ∙ admitted-after P L good.ladder.formed c _ (group_admitted b h good c group) in
-          let says : v ≡ verdict_as (output_of P (rest_of P L w c)) =
-          hv ∙ admit_on P e _ (verdict_as (output_of P e)) on ∙ ap (λ x. verdict_as (output_of P x)) to in
+          let says : v ≡ Ok (verdict_as (output_of P (rest_of P L w c))) =
+          hv ∙ admit_on P e _ (Ok (verdict_as (output_of P e))) on ∙ ap (λ x. Ok (verdict_as (output_of P x))) to in
           let of : (u : Bool) → agrees_on u v ≡ rests_on P L w u c = λ u. ap (agrees_on u) says ∙ verdict_is u (output_of P (rest_of P L w c)) in
           hr ∙ rw (of false, of true, steps_is)
 

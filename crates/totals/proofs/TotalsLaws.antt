@@ -1,7 +1,7 @@
 -- The code's returns follow the definition of the sheet. Assumes nothing.
-use Rattle.std.specs.Prelude.{◌≡◌, Bool, true, false, ℕ, zero, suc, ◌-◌, ◌≤◌, ltb, length, take, drop, replicate}
+use Rattle.std.specs.Prelude.{◌≡◌, Bool, true, false, ℕ, zero, suc, ◌-◌, ◌≤◌, ltb, length, take, drop, replicate, Result, Ok, Err, IsOk}
 use Rattle.std.proofs.Math.Path.{refl, sym, ap}
-use Rattle.std.proofs.Common.{◌∙◌, arith, ltb-false, le-ltb, length-take}
+use Rattle.std.proofs.Common.{◌∙◌, subst, arith, ltb-false, le-ltb, length-take, true≢false}
 use mathlib.Core.List.{List, [], ◌++◌}
 use Rattle.std.proofs.Math.Nat.{sub-zero, suc-sub-suc}
 use Rattle.std.proofs.lemmas.List.{length-replicate}
@@ -12,32 +12,31 @@ use Rattle.theory.specs.Ladder.{Layers}
 use Rattle.theory.specs.Starts.{inputs_of}
 use Rattle.format.specs.Format.{header_of, sections_of, protocol_of, protocol_in, layers_in, weight_in}
 use Rattle.format.specs.declared.Header.{Header}
-use Rattle.shape.specs.Shape.{refusal, outside}
-use Rattle.shape.specs.declared.Refusal.{Refusal}
-use Rattle.checker.specs.Check.{check_of, on_accepted}
-use Rattle.checker.specs.Check.Laws.{accepted_sound, accepted_laddered}
+use Rattle.refusals.specs.Refusal.{Refusal, refusal}
+use Rattle.shape.specs.Shape.{outside}
+use Rattle.shape.specs.declared.sound.Docket.{Docket}
+use Rattle.shape.proofs.SoundLaws.{docket_sound}
+use Rattle.checker.specs.Check.{sections_check, check_of, on_accepted}
+use Rattle.checker.specs.Check.Laws.{certified_laddered, certified_check, accepted_shape, accepted_tests, passes_laddered}
 use Rattle.checker.specs.declared.Summary.{Summary}
-use Rattle.checker.specs.declared.Checked.{Checked}
-use Rattle.checker.specs.declared.Checked.TheVariants as checked
 use Rattle.totals.specs.Code.{Runs}
 use Rattle.totals.specs.Totals.{totals_of, first_most, beyond, Allowed, refused_sheet, full_sheet, sheet_in, sheet_of}
 use Rattle.totals.specs.declared.Totals.{Totals}
 use Rattle.totals.specs.declared.Sheet.{Sheet}
-use Rattle.totals.specs.declared.Tallied.TheVariants.{Counted}
 
 -- ---- 64 counts
 
-pub part_long : (k : ℕ) → k ≤ 64 → length (take k (replicate {A = ℕ} 64 0)) ≡ k
-part_long k l = length-take k (replicate 64 0) ∙ omega (arith, length-replicate {A = ℕ} 64 0)
+pub part_long : (k e : ℕ) → e ≡ k → k ≤ 64 → length (take e (replicate {A = ℕ} 64 0)) ≡ k
+part_long k e h l = ap (λ m. length (take m (replicate {A = ℕ} 64 0))) h ∙ length-take k (replicate 64 0) ∙ omega (arith, length-replicate {A = ℕ} 64 0)
 
 drop_zeros : (n k : ℕ) → drop k (replicate {A = ℕ} n 0) ≡ replicate (n - k) 0
 drop_zeros n zero = ap (λ m. replicate m 0) (sym (sub-zero n))
 drop_zeros zero (suc k) = ap (λ m. replicate m 0) (let z : 0 ≡ 0 - suc k = omega arith in z)
 drop_zeros (suc n) (suc k) = drop_zeros n k ∙ ap (λ m. replicate m 0) (sym (suc-sub-suc n k))
 
-pub sheet_full : (P : Protocol) (L : Layers) (w : ℕ → ℕ → ℕ) (n : ℕ) (t : Totals) (f : List ℕ) → t ≡ totals_of P L w n → f ≡ first_most P L w n
-    → ◌≡◌ {A = Sheet} (record { tallied = Counted t; first = f ++ drop P.states (replicate 64 0) }) (full_sheet P L w n)
-sheet_full P L w n t f ht hf = rw (ht, hf, drop_zeros 64 P.states)
+pub sheet_full : (P : Protocol) (L : Layers) (w : ℕ → ℕ → ℕ) (n e : ℕ) (t : Totals) (f : List ℕ) → e ≡ P.states → t ≡ totals_of P L w n
+    → f ≡ first_most P L w n → ◌≡◌ {A = Sheet} (record { tallied = Ok t; first = f ++ drop e (replicate 64 0) }) (full_sheet P L w n)
+sheet_full P L w n e t f he ht hf = rw (he, ht, hf, drop_zeros 64 P.states)
 
 -- ---- Test 34
 
@@ -90,18 +89,46 @@ module _ (b : List ℕ) (h : Header) (n : ℕ) (states : List ℕ) (here : state
 
 -- ---- The check
 
-module _ (b : List ℕ) (n : ℕ) (a : Checked) (e : a ≡ check_of b) where
-  module _ (f : Summary) (u : a ≡ checked.Accepted f) (h : Header) (q : h ≡ header_of b) where
-    pub runs_accepted : Runs b h
-    runs_accepted = record { sound = accepted_sound b a e f u h q; ladder = accepted_laddered b a e f u h q }
+-- The sheet of the bytes b, whose check accepts or refuses.
+module _ (b : List ℕ) where
+  pub runs_accepted : (f : Summary) → check_of b ≡ Ok f → Runs b (header_of b)
+  runs_accepted f e =
+      let (h, sound, rest) = accepted_shape b f e in
+      subst (Runs b) sound.header
+      (record { sound = sound; ladder = passes_laddered b h sound (accepted_tests h.sizes (sections_of b h) f rest) })
 
-    pub sheet_accepted : (s : Sheet) → s ≡ sheet_in (protocol_in b h) (layers_in b h) (weight_in b h) n → s ≡ sheet_of b n
+  module _ (n : ℕ) (s : Sheet) where
+    abbrev accepted : Sheet
+    accepted = let h = header_of b in sheet_in (protocol_in b h) (layers_in b h) (weight_in b h) n
+
+    pub sheet_accepted : IsOk (check_of b) → s ≡ accepted → s ≡ sheet_of b n
     unfolding sheet_of
-    sheet_accepted s g =
-        g ∙ ap (λ k. sheet_in (protocol_in b k) (layers_in b k) (weight_in b k) n) q
-        ∙ sym (ap (on_accepted refused_sheet (sheet_in (protocol_in b (header_of b)) (layers_in b (header_of b)) (weight_in b (header_of b)) n)) (sym e ∙ u))
+    sheet_accepted = go (check_of b)
+      where
+        go : (x : Result Summary Refusal) → IsOk x → s ≡ accepted → s ≡ on_accepted refused_sheet accepted x
+        go (Ok f) k g = g
+        go (Err r) k g = absurd (true≢false (sym k))
 
-  pub sheet_refused : (r : Refusal) (s : Sheet) → a ≡ checked.Refused r → s ≡ refused_sheet r → s ≡ sheet_of b n
-  unfolding sheet_of
-  sheet_refused r s u g =
-      g ∙ sym (ap (on_accepted refused_sheet (sheet_in (protocol_in b (header_of b)) (layers_in b (header_of b)) (weight_in b (header_of b)) n)) (sym e ∙ u))
+    pub sheet_refused : (r : Refusal) → check_of b ≡ Err r → s ≡ refused_sheet r → s ≡ sheet_of b n
+    unfolding sheet_of
+    sheet_refused r u g = g ∙ sym (ap (on_accepted refused_sheet accepted) u)
+
+-- The docket d of these bytes.
+module _ (d : Docket) (b : List ℕ) (q : d.bytes.now ≡ b) where
+  -- Its header is that of the bytes.
+  pub docket_sheet : (n : ℕ) (s : Sheet) → IsOk (check_of b)
+      → s ≡ sheet_in (protocol_in d.bytes.now d.header) (layers_in d.bytes.now d.header) (weight_in d.bytes.now d.header) n → s ≡ sheet_of b n
+  docket_sheet n s k g =
+      let same : d.header ≡ header_of b = (docket_sound d).header ∙ ap header_of q in
+      sheet_accepted b n s k (rw (q, same) at g)
+
+  -- What tests 9 to 13 answer.
+  module _ (a : Result Summary Refusal) (e : a ≡ sections_check d.header.sizes (sections_of d.bytes.now d.header)) where
+    pub runs_certified : (f : Summary) → a ≡ Ok f → Runs d.bytes.now d.header
+    runs_certified f u = record { sound = docket_sound d; ladder = certified_laddered d a f e u }
+
+    pub check_accepts : (f : Summary) → a ≡ Ok f → IsOk (check_of b)
+    check_accepts f u = rw (certified_check d b a e q ∙ u) refl
+
+    pub check_refuses : (r : Refusal) → a ≡ Err r → check_of b ≡ Err r
+    check_refuses r u = certified_check d b a e q ∙ u

@@ -1,5 +1,5 @@
 -- What the functions of the totals answer, beside the definitions of Totals.
-use Rattle.std.specs.Prelude.{◌≡◌, Bool, true, false, not, cond, ◌||◌, List, ℕ, ◌+◌, ◌≤◌, ◌<◌, max, ltb, eqb, length}
+use Rattle.std.specs.Prelude.{◌≡◌, Bool, true, false, not, cond, ◌||◌, List, ℕ, ◌+◌, ◌≤◌, ◌<◌, max, ltb, eqb, length, Option, Some, None, Result, Ok, Err}
 use Rattle.std.specs.Bool.{beq}
 use Rattle.theory.specs.Bool.{bit}
 use Rattle.theory.specs.Below.{greatest, first_greatest}
@@ -11,8 +11,7 @@ use Rattle.theory.proofs.Machine.Rest.{RunsTo}
 use Rattle.format.specs.Format.{protocol_in, layers_in, weight_in}
 use Rattle.format.specs.declared.Header.{Header}
 use Rattle.shape.specs.Sound.{SoundShape}
-use Rattle.machine.specs.declared.Verdict.{Verdict}
-use Rattle.machine.specs.declared.Verdict.TheVariants as shown
+use Rattle.refusals.specs.Refusal.{Refusal}
 use Rattle.totals.specs.Totals.{steps_to_rest, rests_on, resting_on, steps_at}
 use Rattle.totals.specs.declared.Totals.{Totals}
 
@@ -40,10 +39,10 @@ pub record Turning (b : List ℕ) (h : Header) (c : List ℕ) (k : ℕ) (going :
   pub rests : going ≡ false → terminal (protocol_in b h) d ≡ true
 
 -- Whether the verdict is v.
-abbrev pub agrees_on : Bool → Verdict → Bool
-agrees_on v (shown.Agreed u) = beq u v
-agrees_on v shown.Mixed = false
-agrees_on v (shown.Refused r) = false
+abbrev pub agrees_on : Bool → Result (Option Bool) Refusal → Bool
+agrees_on v (Ok (Some u)) = beq u v
+agrees_on v (Ok None) = false
+agrees_on v (Err r) = false
 
 -- The totals are small enough for one start more.
 pub record Room (t : Totals) : Type 0 where
@@ -63,7 +62,7 @@ added t steps zero one =
     }
 
 -- The same, where it rests on this verdict.
-abbrev pub with_start : Totals → ℕ → Verdict → Totals
+abbrev pub with_start : Totals → ℕ → Result (Option Bool) Refusal → Totals
 with_start t steps v = added t steps (agrees_on false v) (agrees_on true v)
 
 -- Whether a start that takes so many steps, after the totals t, takes more than every start before it, or is the first start.

@@ -1,5 +1,5 @@
 -- The sheet of exact totals (document 02, Job 9): every start with n agents besides the fixed ones is run until it rests.
-use Rattle.std.specs.Prelude.{Bool, true, false, ◌||◌, List, [], ◌∷◌, ◌++◌, ℕ, ◌-◌, ◌≤◌, ltb, length, replicate}
+use Rattle.std.specs.Prelude.{Bool, true, false, ◌||◌, List, [], ◌∷◌, ◌++◌, ℕ, ◌-◌, ◌≤◌, ltb, length, replicate, Ok, Err}
 use Rattle.std.specs.Bool.{beq}
 use Rattle.theory.specs.Bool.{bit}
 use Rattle.theory.specs.Below.{sum_below, greatest, first_greatest}
@@ -9,12 +9,11 @@ use Rattle.theory.specs.Ladder.{Layers}
 use Rattle.theory.specs.Starts.{inputs_of, starts, start_at}
 use Rattle.theory.specs.Machine.{rest_numbers, rest_of}
 use Rattle.format.specs.Format.{header_of, protocol_in, layers_in, weight_in}
-use Rattle.shape.specs.Shape.{refusal, outside}
-use Rattle.shape.specs.declared.Refusal.{Refusal}
+use Rattle.refusals.specs.Refusal.{Refusal, refusal}
+use Rattle.shape.specs.Shape.{outside}
 use Rattle.checker.specs.Check.{check_of, on_accepted}
 use Rattle.totals.specs.declared.Totals.{Totals}
 use Rattle.totals.specs.declared.Sheet.{Sheet}
-use Rattle.totals.specs.declared.Tallied.TheVariants.{Counted, Refused}
 
 -- Whether this output is v.
 abbrev pub is_agreed : Bool → Output → Bool
@@ -62,7 +61,7 @@ module _ (P : Protocol) (L : Layers) (w : ℕ → ℕ → ℕ) where
 
 -- A sheet without totals.
 abbrev pub refused_sheet : Refusal → Sheet
-refused_sheet r = record { tallied = Refused r; first = replicate 64 0 }
+refused_sheet r = record { tallied = Err r; first = replicate 64 0 }
 
 -- Test 34: more than eight inputs, or n outside 2 to 12.
 abbrev pub beyond : ℕ → ℕ → Bool
@@ -80,7 +79,7 @@ pub record Allowed (P : Protocol) (n : ℕ) : Type 0 where
 module _ (P : Protocol) (L : Layers) (w : ℕ → ℕ → ℕ) (n : ℕ) where
   -- The totals, and the first start that needs the greatest step total, with 0 behind it up to 64 counts.
   abbrev pub full_sheet : Sheet
-  full_sheet = record { tallied = Counted (totals_of P L w n); first = first_most P L w n ++ replicate (64 - P.states) 0 }
+  full_sheet = record { tallied = Ok (totals_of P L w n); first = first_most P L w n ++ replicate (64 - P.states) 0 }
 
   -- The answer for an accepted docket.
   unfoldable pub sheet_in : Sheet

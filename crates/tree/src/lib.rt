@@ -4,70 +4,22 @@
 
 ghost use Rattle.std.specs.Prelude.{◌≡◌, ◌≤◌, ◌<◌};
 ghost use Rattle.theory.specs.Facts.{fresh};
-ghost use Rattle.theory.specs.Tree.{refused, disagreement, tree_at, tree_answer, widest as widestOf};
+ghost use Rattle.theory.specs.Tree.{disagreement, tree_at, tree_answer, widest as widestOf};
 ghost use Rattle.format.specs.Format.{protocol_of, tree_of, weights_of};
 ghost use Rattle.facts.specs.Code.{facts_of};
 ghost use Rattle.shape.specs.Code.{SoundRules};
 ghost use Rattle.node.specs.Code.{assumption_of, AimFits};
-ghost use Rattle.tree.specs.Code.{walked_of, walked_in, refusal_of, AimsAt, set_size_at};
+ghost use Rattle.tree.specs.Code.{walked_of, AimsAt, set_size_at};
 
 use facts::Facts;
 use format::{Flag, Sizes};
-use node::{Aim, Outcome};
-use shape::Refusal;
+use node::{Aim, Children, Kind};
+use refusals::{Fault, Refusal};
 use threshold::Leaves;
 
-// Where a walk comes to: the next node, or a refusal.
-#[derive(Clone, Copy)]
-pub enum Walk {
-    Next(u16),
-    Refused(Refusal),
-}
-
-// The refusal of a refused walk; 0, 0 for another.
-pub fn refusal_of(w: Walk) -> Refusal
-    ensures { result ≡ refusal_of w }
-{
-    match w {
-        Walk::Next(_) => Refusal {
-            number: 0,
-            place: 0,
-        },
-        Walk::Refused(r) => r,
-    }
-}
-
-// A walk that is refused at a node.
-fn refuse(number: u32, i: u16) -> Walk
-    ensures { walked_of result ≡ refused number i }
-{
-    let place = i as u32;
-    Walk::Refused(Refusal { number, place })
-}
-
-// A refusal at a node as one number: its own times 65,536, plus the place. The walk's answer is such a number, or the next
-// node, which is below 65,536: a number need not lie in memory.
-fn refusal_code(number: u32, i: u16) -> u32
-    requires le_number { 1 ≤ number }
-    requires number_bound { number < 65536 }
-    ensures { walked_in result ≡ refused number i }
-{
-    number * 65536 + (i as u32)
-}
-
-// The walk that the number stands for.
-fn walk_of(code: u32) -> Walk
-    ensures { walked_of result ≡ walked_in code }
-{
-    if code < 65536 {
-        return Walk::Next(code as u16);
-    }
-    let place = (code % 65536) as u16;
-    refuse(code / 65536, place)
-}
-
-// Node `start` and all below it, on the facts given, where the nodes may be so many deep. The loop goes from a node to its
-// last child; a first child of two has a walk of its own. The numbers are those of a claim sheet; a docket has none.
+// Node `start` and all below it, on the facts given, where the nodes may be so many deep: the number of the node behind them.
+// The loop goes from a node to its last child; a first child of two has a walk of its own. (It counts the depth that is left,
+// and no index.) The numbers are those of a claim sheet; a docket has none.
 fn descend(
     states: &[u8],
     rules: &[u8],
@@ -79,10 +31,10 @@ fn descend(
     depth: u16,
     given: Facts,
     start: u16,
-) -> u32
+) -> Result<u16, Refusal>
     requires sound_rules { SoundRules z rules.now }
     requires aim_fits { AimFits z states.now aim }
-    ensures { walked_in result ≡ tree_at (protocol_of z states.now rules.now)
+    ensures { walked_of result ≡ tree_at (protocol_of z states.now rules.now)
         (assumption_of (protocol_of z states.now rules.now) z numbers.now leaves.now aim)
         (tree_of z nodes.now) depth (facts_of given) start }
 {
@@ -91,38 +43,34 @@ fn descend(
     let mut i = start;
     while 0 < left {
         if z.nodes <= i {
-            return refusal_code(12, z.nodes);
+            return Err(Fault::Fields.refuse(u32::from(z.nodes)));
         }
-        let step = node::node_step(states, rules, nodes, numbers, leaves, z, aim, facts, i);
-        let outcome = step.outcome;
-        let first = step.first;
-        let second = step.second;
-        let next = i + 1;
         left -= 1;
-        match outcome {
-            Outcome::Refused(number) => {
-                return refusal_code(number, i);
+        match node::node_step(states, rules, nodes, numbers, leaves, z, aim, facts, i) {
+            Err(fault) => return Err(fault.refuse(u32::from(i))),
+            Ok(Children::None) => return Ok(i + 1),
+            Ok(Children::One(child)) => {
+                facts = child;
+                i += 1;
             }
-            Outcome::Closed => {
-                return next as u32;
-            }
-            Outcome::Child => {
-                facts = first;
-                i = next;
-            }
-            Outcome::Children => {
-                let below = descend(
-                    states, rules, nodes, numbers, leaves, z, aim, left, first, next,
-                );
-                if 65536 <= below {
-                    return below;
-                }
+            Ok(Children::Two(first, second)) => {
+                i = descend(
+                    states,
+                    rules,
+                    nodes,
+                    numbers,
+                    leaves,
+                    z,
+                    aim,
+                    left,
+                    first,
+                    i + 1,
+                )?;
                 facts = second;
-                i = below as u16;
             }
         }
     }
-    refusal_code(12, i)
+    Err(Fault::Fields.refuse(u32::from(i)))
 }
 
 // The facts at the root: every state with fixed agents is present at the start, every other that is no input is absent.
@@ -135,7 +83,8 @@ fn root_facts(states: &[u8], rules: &[u8], z: Sizes) -> Facts
     Facts::fresh(inputs, fixed, z.states)
 }
 
-// The whole tree, which refutes what the aim assumes: accepted (Next), or the first refusal. A node left over is refused.
+// The whole tree, which refutes what the aim assumes: the number of its nodes, or the first refusal. A node left over is
+// refused.
 pub fn walk_tree(
     states: &[u8],
     rules: &[u8],
@@ -144,7 +93,7 @@ pub fn walk_tree(
     leaves: &[u8],
     z: Sizes,
     aim: Aim,
-) -> Walk
+) -> Result<u16, Refusal>
     requires sound_rules { SoundRules z rules.now }
     requires aim_fits { AimFits z states.now aim }
     ensures { walked_of result ≡ tree_answer (protocol_of z states.now rules.now)
@@ -152,7 +101,7 @@ pub fn walk_tree(
         (tree_of z nodes.now) }
 {
     let facts = root_facts(states, rules, z);
-    let code = descend(
+    let j = descend(
         states,
         rules,
         nodes,
@@ -163,16 +112,13 @@ pub fn walk_tree(
         Facts::DEPTH,
         facts,
         0,
-    );
-    let end = walk_of(code);
-    let Walk::Next(j) = end else {
-        return end;
-    };
+    )?;
     let whole = j == z.nodes;
     if whole {
-        return Walk::Next(j);
+        Ok(j)
+    } else {
+        Err(Fault::Fields.refuse(u32::from(j)))
     }
-    refuse(12, j)
 }
 
 // What a tree refutes: so many runs, that end with a state of the outputs given; whose says whose leaves the tree has.
@@ -195,7 +141,13 @@ pub fn aim_at(states: &[u8], z: Sizes, runs: usize, first: bool, second: bool, w
 
 // Tests 12 and 13: the whole tree of a docket, which refutes that run 1 ends with a state of output 0 and run 2 with one of
 // output 1. A docket has no numbers: what is lent for them is not read.
-pub fn check_tree(states: &[u8], rules: &[u8], nodes: &[u8], leaves: &[u8], z: Sizes) -> Walk
+pub fn check_tree(
+    states: &[u8],
+    rules: &[u8],
+    nodes: &[u8],
+    leaves: &[u8],
+    z: Sizes,
+) -> Result<u16, Refusal>
     requires { SoundRules z rules.now }
     ensures { walked_of result ≡ tree_answer (protocol_of z states.now rules.now)
         (disagreement (protocol_of z states.now rules.now) (weights_of z leaves.now))
@@ -205,16 +157,14 @@ pub fn check_tree(states: &[u8], rules: &[u8], nodes: &[u8], leaves: &[u8], z: S
     walk_tree(states, rules, nodes, leaves, leaves, z, aim)
 }
 
-// How many states the set of node i names; 0 where its kind names none.
+// How many states the set of node i names; none, that is 0, where its kind names no set.
 fn set_size(nodes: &[u8], i: u16) -> u32
     ensures { result ≡ set_size_at nodes.now i }
 {
-    let kind = format::node_kind(nodes, i);
-    let names = (kind == 5) | (kind == 6);
-    if names {
-        return bits::size(format::node_set(nodes, i));
+    match Kind::try_from(format::node_kind(nodes, i) as u8) {
+        Ok(Kind::Trap | Kind::Siphon) => bits::size(format::node_set(nodes, i)),
+        _ => 0,
     }
-    0
 }
 
 // M: how many states the widest set of the tree names.
@@ -222,10 +172,8 @@ pub fn widest(nodes: &[u8], z: Sizes) -> u32
     ensures { result ≡ widestOf (tree_of z nodes.now) }
 {
     let mut most: u32 = 0;
-    let mut i: u16 = 0;
-    while i < z.nodes {
-        most = format::greater(most, set_size(nodes, i));
-        i += 1;
+    for i in 0..z.nodes {
+        most = most.max(set_size(nodes, i));
     }
     most
 }

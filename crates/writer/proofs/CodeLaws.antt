@@ -1,36 +1,35 @@
 -- Laws for the functions of the writer. Assumes nothing.
-use Rattle.std.specs.Prelude.{◌≡◌, Bool, true, false, not, ◌||◌, ℕ, ◌+◌, ◌*◌, ◌/◌, ◌%◌, ◌-◌, ◌≤◌, ◌<◌, ltb, eqb}
+use Rattle.std.specs.Prelude.{◌≡◌, Bool, true, false, not, ◌||◌, ℕ, zero, suc, ◌+◌, ◌*◌, ◌/◌, ◌%◌, ◌≤◌, ◌<◌, ltb, eqb, Option, Some, None, Result, Ok, Err}
 use Rattle.std.proofs.Math.Path.{refl, sym, ap, subst}
-use Rattle.std.proofs.Common.{◌∙◌, ⊎_elim, div-one, mul_comm, arith, eqb-true, eq-eqb, ne_eqb, lt-ltb, le-ltb, ltb-true, ltb-false, length-append, drop-drop}
-use mathlib.Core.List.{List, [], ◌∷◌, ◌++◌, append_assoc, append-nil}
-use Rattle.std.proofs.Math.Nat.{div-div-eq-div-mul, mod-one}
+use Rattle.std.proofs.Common.{◌∙◌, mul_comm, arith, eqb-true, eq-eqb, ne_eqb, lt-ltb, le-ltb, ltb-true, ltb-false, length-append, drop-drop}
+use mathlib.Core.List.{List, [], ◌∷◌, ◌++◌, append_assoc}
 use Rattle.std.proofs.lemmas.Bool.{eqb-false}
+use Rattle.std.proofs.lemmas.List.Edits.{paste_more}
 use Rattle.std.proofs.Math.Arith.{mod-mul}
-use Rattle.std.proofs.Math.ListN.{length, take, drop, length-take, length-drop, drop_of_length-le}
-use Rattle.std.proofs.Math.Seq.{take_all, take-length, take-append_seam, drop-append-add}
+use Rattle.std.proofs.Math.ListN.{length, drop, set, get_or}
+use Rattle.std.proofs.Math.Seq.{paste, take-append_seam, drop-append-add}
 use Rattle.theory.proofs.Bool.Laws.{by_test}
-use Rattle.theory.specs.Below.{first_below}
-use Rattle.theory.proofs.Below.Scan.{first_clear}
-use Rattle.theory.specs.Judge.{Test, judge, Passes}
-use Rattle.theory.proofs.Judge.Laws.{judge_hit, judge_pass, judge_done, only_hit, only_pass, judge_map, judge-append}
-use Rattle.format.specs.Format.{state_width, Sections, sections}
+use Rattle.theory.specs.Below.{Clear}
+use Rattle.theory.specs.Below.Ends.{first_where}
+use Rattle.theory.proofs.Below.Scan.{first_where-tells}
+use Rattle.theory.specs.Judge.{Test, only, judge, Passes}
+use Rattle.theory.specs.Judge.Found.{at_place, where_bad}
+use Rattle.theory.proofs.Judge.Laws.{judge_done, only_refuses, only_passes, judge_map, judge-append}
+use Rattle.format.specs.Format.{Sections, sections}
 use Rattle.format.specs.declared.Sizes.{Sizes}
 use Rattle.format.specs.declared.Header.{Header}
-use Rattle.shape.specs.Shape.{refusal, nth, wrong_version, count_faults, count_test, section_tests}
-use Rattle.shape.proofs.ShapeLaws.{five_of_six, tested_passes}
+use Rattle.refusals.specs.Refusal.{Refusal, refusal}
+use Rattle.shape.specs.Shape.{nth, wrong_version, count_faults, section_tests}
+use Rattle.shape.proofs.ShapeLaws.{tested_passes}
 use Rattle.shape.specs.Sound.{Limits}
-use Rattle.shape.proofs.SoundLaws.{version_passes, limits}
-use Rattle.shape.specs.Code.{failed, tested_of}
-use Rattle.shape.specs.declared.Refusal.{Refusal}
-use Rattle.shape.specs.declared.Tested.{Tested}
-use Rattle.shape.specs.declared.Tested.TheVariants.{Passed, Failed}
+use Rattle.shape.proofs.SoundLaws.{limits}
+use Rattle.shape.specs.Code.{tested_of}
 use Rattle.leaf.specs.Leaf.{leaf_test}
-use Rattle.writer.specs.Write.{lengths_of, not_whole, records, states_for, length_faults, sizes_for, sizes_in, offsets_for, header_for, header_bytes, docket_of}
-use Rattle.writer.specs.Write.{length_test, record_tests, room_test, part_tests, write_of, output_of, written}
+use Rattle.writer.specs.Write.{lengths_of, not_whole, length_faults, sizes_for, sizes_in, offsets_for, header_for, put16, header_bytes, docket_of}
+use Rattle.writer.specs.Write.{record_tests, room_test, part_tests, write_of, output_of, written}
 use Rattle.writer.proofs.WriteLaws.{whole_records, total-length, docket_length, room_passes}
 use Rattle.writer.specs.Code.{cut, cut_sizes, records_tested, parts_tested, behind, as_written, replaced}
 use Rattle.writer.specs.declared.Lengths.{Lengths}
-use Rattle.writer.specs.declared.Written.TheVariants.{Total, Refused}
 
 -- ---- Records of 4 bytes for each of s states
 
@@ -46,48 +45,8 @@ four_divides s n h =
     (λ d. let high : n / 4 % s ≡ 0 → ⊥ = eqb-false _ _ d in rw (e, d, ne_eqb (n % (4 * s)) 0 (λ z. high (omega arith)))))
     (λ e. let low : n % 4 ≡ 0 → ⊥ = eqb-false _ _ e in rw (e, ne_eqb (n % (4 * s)) 0 (λ z. low (omega arith))))
 
-module _ (s n : ℕ) where
-  pub none_whole : s < 1 → false ≡ not_whole (4 * s) n
-  none_whole h = let e : s ≡ 0 = omega arith in rw (e)
-
-  pub records_none : s < 1 → 0 ≡ records (4 * s) n
-  records_none h = let e : s ≡ 0 = omega arith in rw (e)
-
-  module _ (some : 1 ≤ s) where
-    wide : eqb (4 * s) 0 ≡ false
-    wide = ne_eqb (4 * s) 0 (λ e. omega arith)
-
-    pub whole_split : not (eqb (n % 4) 0) || not (eqb (n / 4 % s) 0) ≡ not_whole (4 * s) n
-    whole_split = rw (wide) (four_divides s n some)
-
-    pub records_split : n / 4 / s ≡ records (4 * s) n
-    records_split = rw (wide) (div-div-eq-div-mul n 4 s)
-
--- State records of three bytes, or of one.
-module _ (v n : ℕ) where
-  pub states_three : v ≡ 2 → n / 3 ≡ records (state_width v) n
-  states_three e = rw (eq-eqb v 2 e)
-
-  pub states_one : (v ≡ 2 → ⊥) → n ≡ records (state_width v) n
-  states_one e = rw (ne_eqb v 2 e) (sym (div-one n))
-
-  pub whole_three : v ≡ 2 → not (eqb (n % 3) 0) ≡ not_whole (state_width v) n
-  whole_three e = rw (eq-eqb v 2 e)
-
-  pub whole_one : (v ≡ 2 → ⊥) → false ≡ not_whole (state_width v) n
-  whole_one e = rw (ne_eqb v 2 e) (sym (ap not (eq-eqb (n % 1) 0 (mod-one n))))
-
-pub ruleset versions = (states_three, states_one, whole_three, whole_one)
-
--- There are k states. Whether states, layers and leaves are at fault is s, t and u.
-pub five_lengths : (v : ℕ) (n : Lengths) (k : ℕ) (s t u : Bool) (r : ℕ) → k ≡ states_for v n → s ≡ not_whole (state_width v) n.states
-    → t ≡ not_whole (4 * k) n.layers → u ≡ not_whole (4 * k) n.leaves
-    → r ≡ first_below 6 (nth (s ∷ not (eqb (n.rules % 5) 0) ∷ t ∷ not (eqb (n.nodes % 12) 0) ∷ u ∷ true ∷ []))
-    → r ≡ first_below 5 (nth (length_faults v n))
-five_lengths v n k s t u r c b d f e =
-    let t' : t ≡ not_whole (4 * states_for v n) n.layers = d ∙ ap (λ m. not_whole (4 * m) n.layers) c in
-    let u' : u ≡ not_whole (4 * states_for v n) n.leaves = f ∙ ap (λ m. not_whole (4 * m) n.leaves) c in
-    rw (← b, ← t', ← u') (five_of_six r s _ t _ u e)
+pub whole_split : (s n : ℕ) → 1 ≤ s → not (eqb (n % 4) 0) || not (eqb (n / 4 % s) 0) ≡ not_whole (4 * s) n
+whole_split s n some = let wide : eqb (4 * s) 0 ≡ false = ne_eqb (4 * s) 0 (λ e. omega arith) in rw (wide) (four_divides s n some)
 
 -- ---- Counts in 16 bits
 
@@ -108,12 +67,6 @@ cut_zero n =
     by_test (eqb n 0)
     (λ e. let z : n ≡ 0 = eqb-true _ _ e in eq-eqb (cut n) 0 (omega arith) ∙ sym e)
     (λ e. let z : n ≡ 0 → ⊥ = eqb-false _ _ e in ne_eqb (cut n) 0 (λ d. z (omega arith)) ∙ sym e)
-
--- The counts that are made of the lengths n: c states, a layers and b leaves.
-pub sizes-cut : (v : ℕ) (n : Lengths) (a b c s r l m k : ℕ) → c ≡ states_for v n → a ≡ records (4 * c) n.layers → b ≡ records (4 * c) n.leaves
-    → s ≡ cut c → r ≡ cut (n.rules / 5) → l ≡ cut a → m ≡ cut (n.nodes / 12) → k ≡ cut b
-    → record { version = v; states = s; rules = r; layers = l; nodes = m; leaves = k } ≡ cut_sizes (sizes_for v n)
-sizes-cut v n a b c s r l m k ec ea eb es er el em ek = rw (es, er, el, em, ek, ea, eb, ec)
 
 -- Test 3 says the same of counts in 16 bits.
 pub cut-counts : (z : Sizes) → count_faults (cut_sizes z) ≡ count_faults z
@@ -142,125 +95,146 @@ cut_same z L =
 
 -- ---- Tests behind tests
 
-tested_append : (us vs : List Test) → behind (judge failed Passed us) (judge failed Passed vs) ≡ judge failed Passed (us ++ vs)
-tested_append us vs = judge_map (λ o. behind o (judge failed Passed vs)) failed Passed us ∙ sym (judge-append failed Passed us vs)
+-- What tests find that are made by `?`.
+abbrev Found : Type 0
+Found = Result (Unit {0}) Refusal
+
+abbrev judged : List Test → Found
+judged = judge (λ n k. Err (refusal n k)) (Ok tt)
+
+tested_append : (us vs : List Test) → behind (judged us) (judged vs) ≡ judged (us ++ vs)
+tested_append us vs = judge_map (λ o. behind o (judged vs)) (λ n k. Err (refusal n k)) (Ok tt) us ∙ sym (judge-append (λ n k. Err (refusal n k)) (Ok tt) us vs)
 
 -- The first tests found o, and r is answered.
-module _ (us vs : List Test) (o r : Tested) (e : o ≡ judge failed Passed us) where
-  passed_then : o ≡ Passed → r ≡ judge failed Passed vs → r ≡ judge failed Passed (us ++ vs)
-  passed_then p h = h ∙ sym (ap (λ t. behind t (judge failed Passed vs)) (sym e ∙ p)) ∙ tested_append us vs
+module _ (us vs : List Test) (o r : Found) (e : o ≡ judged us) where
+  passed_then : o ≡ Ok tt → r ≡ judged vs → r ≡ judged (us ++ vs)
+  passed_then p h = h ∙ sym (ap (λ t. behind t (judged vs)) (sym e ∙ p)) ∙ tested_append us vs
 
-  failed_else : (q : Refusal) → o ≡ Failed q → r ≡ o → r ≡ judge failed Passed (us ++ vs)
-  failed_else q p h = h ∙ p ∙ sym (ap (λ t. behind t (judge failed Passed vs)) (sym e ∙ p)) ∙ tested_append us vs
+  refused_else : (q : Refusal) → o ≡ Err q → r ≡ Err q → r ≡ judged (us ++ vs)
+  refused_else q p h = h ∙ sym (ap (λ t. behind t (judged vs)) (sym e ∙ p)) ∙ tested_append us vs
 
 -- Tests 5 to 8 found o.
-module _ (z : Sizes) (states rules layers leaves : List ℕ) (o r : Tested) (e : o ≡ tested_of z states rules layers) where
+module _ (z : Sizes) (states rules layers leaves : List ℕ) (o r : Found) (e : o ≡ tested_of z states rules layers) where
   abbrev found : Sections
   found = sections states rules layers [] leaves
 
-  tests-found : o ≡ judge failed Passed (section_tests z found)
+  tests-found : o ≡ judged (section_tests z found)
   unfolding tested_of
   tests-found = e
 
-  pub records_then : o ≡ Passed → r ≡ judge failed Passed (leaf_test z leaves ∷ []) → r ≡ records_tested z states rules layers leaves
+  pub records_then : o ≡ Ok tt → r ≡ judged (leaf_test z leaves ∷ []) → r ≡ records_tested z states rules layers leaves
   unfolding records_tested
   records_then = passed_then (section_tests z found) (leaf_test z leaves ∷ []) o r tests-found
 
-  pub records_else : (q : Refusal) → o ≡ Failed q → r ≡ o → r ≡ records_tested z states rules layers leaves
+  pub records_else : (q : Refusal) → o ≡ Err q → r ≡ Err q → r ≡ records_tested z states rules layers leaves
   unfolding records_tested
-  records_else = failed_else (section_tests z found) (leaf_test z leaves ∷ []) o r tests-found
+  records_else = refused_else (section_tests z found) (leaf_test z leaves ∷ []) o r tests-found
 
 -- ---- All tests
 
--- Where test 3 passes, the counts are within their limits.
-pub counts-within : (z : Sizes) (k : ℕ) → k ≡ first_below 5 (nth (count_faults z)) → 5 ≤ k → Limits z
-counts-within z k e l = limits z (first_clear 5 (nth (count_faults z)) (omega (arith, e)))
+err_not_ok : (q : Refusal) → ◌≡◌ {A = Found} (Err q) (Ok tt) → ⊥
+err_not_ok q e = let z : ◌≡◌ {A = ℕ} 0 1 = cc in omega arith
 
--- n are the lengths, i the first section at fault.
-module _ (v : ℕ) (x : Sections) (room : ℕ) (r : Tested) (n : Lengths) (e : n ≡ lengths_of x) (i : ℕ) (f : i ≡ first_below 5 (nth (length_faults v n))) where
-  at_length : i ≡ first_below 5 (nth (length_faults v (lengths_of x)))
-  at_length = f ∙ ap (λ m. first_below 5 (nth (length_faults v m))) e
+-- Where a test passes no place is bad.
+none_bad : (n i : ℕ) (f : ℕ → Bool) (o : Option ℕ) → Ok tt ≡ at_place refusal n o → o ≡ first_where i f → Clear f i
+none_bad n i f (Some k) p e = absurd (err_not_ok _ (sym p))
+none_bad n i f None p e = first_where-tells i f None e
 
-  pub length_refused : i < 5 → r ≡ Failed (refusal 31 i) → r ≡ parts_tested v x room
-  unfolding parts_tested
-  length_refused l h = judge_hit failed Passed r (length_test v x) _ i at_length l h
+-- The last test, which points at nothing; t is whether it is bad, and u what the code found of that.
+pub only_last : (n : ℕ) (t u : Bool) (o : Found) → o ≡ where_bad refusal n u → u ≡ t → o ≡ judged (only n t ∷ [])
+only_last n t true o d e = only_refuses refusal (Ok tt) o n t [] o true d e (refusal n 0) d d
+only_last n t false o d e = only_passes refusal (Ok tt) o n t [] o false d e d (judge_done (λ m k. Err (refusal m k)) (Ok tt) o d)
 
-  -- The lengths are whole; z are the counts, k the first that is outside its limits.
-  module _ (whole : 5 ≤ i) (z : Sizes) (g : z ≡ cut_sizes (sizes_for v n)) (k : ℕ) (h : k ≡ first_below 5 (nth (count_faults z))) where
-    behind_lengths : r ≡ judge failed Passed (count_test (sizes_in v x) ∷ (record_tests (sizes_in v x) x ++ room_test v x room ∷ [])) → r ≡ parts_tested v x room
-    unfolding parts_tested
-    behind_lengths = judge_pass failed Passed r (length_test v x) _ i at_length whole
+-- Where test 3 passes, the counts z are within their limits.
+pub counts-within : (z : Sizes) (o : Found) (k : Option ℕ) → o ≡ at_place refusal 3 k → k ≡ first_where 5 (nth (count_faults z)) → o ≡ Ok tt → Limits z
+counts-within z o k d e p = limits z (none_bad 3 5 (nth (count_faults z)) k (sym p ∙ d) e)
 
+-- n are the lengths, and i is the first section at fault.
+module _ (v : ℕ) (x : Sections) (n : Lengths) (e : n ≡ lengths_of x) where
+  pub at_length : (i : Option ℕ) → i ≡ first_where 5 (nth (length_faults v n)) → i ≡ first_where 5 (nth (length_faults v (lengths_of x)))
+  at_length i f = f ∙ ap (λ m. first_where 5 (nth (length_faults v m))) e
+
+  -- z are the counts in 16 bits, and k is the first that is outside its limits.
+  module _ (z : Sizes) (g : z ≡ cut_sizes (sizes_for v n)) where
     cut-sizes : z ≡ cut_sizes (sizes_in v x)
     cut-sizes = g ∙ ap (λ m. cut_sizes (sizes_for v m)) e
 
-    at_count : k ≡ first_below 5 (nth (count_faults (sizes_in v x)))
-    at_count = h ∙ ap (λ m. first_below 5 (nth (count_faults m))) cut-sizes ∙ ap (λ ts. first_below 5 (nth ts)) (cut-counts (sizes_in v x))
+    pub at_count : (k : Option ℕ) → k ≡ first_where 5 (nth (count_faults z)) → k ≡ first_where 5 (nth (count_faults (sizes_in v x)))
+    at_count k h = h ∙ ap (λ m. first_where 5 (nth (count_faults m))) cut-sizes ∙ ap (λ ts. first_where 5 (nth ts)) (cut-counts (sizes_in v x))
 
-    pub count_refused : k < 5 → r ≡ Failed (refusal 3 k) → r ≡ parts_tested v x room
-    count_refused l d = behind_lengths (judge_hit failed Passed r (count_test (sizes_in v x)) _ k at_count l d)
-
-    -- The counts are within their limits; o is what the tests of the records found.
-    module _ (within : 5 ≤ k) (o : Tested) (d : o ≡ records_tested z x.states x.rules x.layers x.leaves) where
+    module _ (o : Found) (k : Option ℕ) (d : o ≡ at_place refusal 3 k) (h : k ≡ first_where 5 (nth (count_faults z))) (p : o ≡ Ok tt) where
       in_limits : Limits (sizes_in v x)
-      in_limits = counts-within (sizes_in v x) k at_count within
+      in_limits = counts-within (sizes_in v x) o k d (at_count k h) p
 
       same_sizes : z ≡ sizes_in v x
       same_sizes = cut-sizes ∙ cut_same (sizes_in v x) in_limits
 
-      behind-counts : r ≡ judge failed Passed (record_tests (sizes_in v x) x ++ room_test v x room ∷ []) → r ≡ parts_tested v x room
-      behind-counts q = behind_lengths (judge_pass failed Passed r (count_test (sizes_in v x)) _ k at_count within q)
+      -- The counts are within their limits; t is what the tests of the records found, and r is answered.
+      module _ (room : ℕ) (t r : Found) (u : t ≡ records_tested z x.states x.rules x.layers x.leaves) where
+        tested : t ≡ judged (record_tests (sizes_in v x) x)
+        unfolding records_tested
+        tested = u ∙ ap (λ y. records_tested y x.states x.rules x.layers x.leaves) same_sizes
 
-      tested : o ≡ judge failed Passed (record_tests (sizes_in v x) x)
-      unfolding records_tested
-      tested = d ∙ ap (λ y. records_tested y x.states x.rules x.layers x.leaves) same_sizes
+        pub room_then : t ≡ Ok tt → r ≡ judged (room_test v x room ∷ []) → r ≡ judged (record_tests (sizes_in v x) x ++ room_test v x room ∷ [])
+        room_then = passed_then (record_tests (sizes_in v x) x) (room_test v x room ∷ []) t r tested
 
-      pub records_refused : (q : Refusal) → o ≡ Failed q → r ≡ o → r ≡ parts_tested v x room
-      records_refused q p u = behind-counts (failed_else (record_tests (sizes_in v x) x) (room_test v x room ∷ []) o r tested q p u)
+        pub room_else : (q : Refusal) → t ≡ Err q → r ≡ Err q → r ≡ judged (record_tests (sizes_in v x) x ++ room_test v x room ∷ [])
+        room_else = refused_else (record_tests (sizes_in v x) x) (room_test v x room ∷ []) t r tested
 
-      module _ (p : o ≡ Passed) (header : Header) (t : header ≡ header_for z) where
-        whole_total : header.at.total ≡ length (docket_of v x)
-        whole_total =
-            ap (λ (g : Header). g.at.total) t ∙ ap (λ y. (offsets_for y).total) same_sizes
-            ∙ total-length v x (whole_records v x (first_clear 5 (nth (length_faults v (lengths_of x))) (omega (arith, at_length))))
-            (omega (arith, in_limits.states_least))
+      -- The lengths are whole, so the total of the header is the docket's length.
+      pub room_by_total : (w : Found) (i : Option ℕ) → w ≡ at_place refusal 31 i → i ≡ first_where 5 (nth (length_faults v n)) → w ≡ Ok tt
+          → (room t : ℕ) → t ≡ (header_for z).at.total → ltb room t ≡ ltb room (length (docket_of v x))
+      room_by_total w i a b c room t u =
+          ap (ltb room)
+          (u ∙ ap (λ y. (offsets_for y).total) same_sizes
+          ∙ total-length v x (whole_records v x (none_bad 31 5 (nth (length_faults v (lengths_of x))) i (sym c ∙ a) (at_length i b)))
+          (omega (arith, in_limits.states_least)))
 
-        behind-records : r ≡ judge failed Passed (room_test v x room ∷ []) → r ≡ parts_tested v x room
-        behind-records u = behind-counts (passed_then (record_tests (sizes_in v x) x) (room_test v x room ∷ []) o r tested p u)
+-- ---- The header
 
-        pub room_refused : room < header.at.total → r ≡ Failed (refusal 30 0) → r ≡ parts_tested v x room
-        room_refused l u =
-            behind-records
-            (only_hit failed Passed r 30 (ltb room (length (docket_of v x))) (ltb room header.at.total) [] (ap (ltb room) whole_total) (lt-ltb _ _ l) u)
+-- The numbers of a header, in order.
+abbrev pub numbers_of : Header → List ℕ
+numbers_of h =
+    let z = h.sizes in
+    let at = h.at in
+    z.version ∷ z.states ∷ z.rules ∷ z.layers ∷ z.nodes ∷ z.leaves ∷ at.states ∷ at.rules ∷ at.layers ∷ at.nodes ∷ at.leaves ∷ at.total ∷ []
 
-        pub write_passed : header.at.total ≤ room → r ≡ Passed → r ≡ parts_tested v x room
-        write_passed l u =
-            behind-records
-            (only_pass failed Passed r 30 (ltb room (length (docket_of v x))) (ltb room header.at.total) [] (ap (ltb room) whole_total) (le-ltb _ _ l)
-            (judge_done failed Passed r u))
+-- The bytes of 16-bit numbers.
+abbrev pub bytes_of : List ℕ → List ℕ
+bytes_of [] = []
+bytes_of (n ∷ ns) = put16 n (bytes_of ns)
+
+low_of : (ns : List ℕ) (i : ℕ) → get_or (bytes_of ns) (2 * i) 0 ≡ get_or ns i 0 % 256
+low_of [] i = refl
+low_of (n ∷ ns) zero = refl
+low_of (n ∷ ns) (suc i) = let e : 2 * suc i ≡ suc (suc (2 * i)) = omega arith in ap (λ j. get_or (bytes_of (n ∷ ns)) j 0) e ∙ low_of ns i
+
+high_of : (ns : List ℕ) (i : ℕ) → get_or (bytes_of ns) (2 * i + 1) 0 ≡ get_or ns i 0 / 256 % 256
+high_of [] i = refl
+high_of (n ∷ ns) zero = refl
+high_of (n ∷ ns) (suc i) = let e : 2 * suc i + 1 ≡ suc (suc (2 * i + 1)) = omega arith in ap (λ j. get_or (bytes_of (n ∷ ns)) j 0) e ∙ high_of ns i
+
+length-bytes : (ns : List ℕ) → length (bytes_of ns) ≡ 2 * length ns
+length-bytes [] = refl
+length-bytes (n ∷ ns) = omega (arith, length-bytes ns)
+
+copied_more : (d s : List ℕ) (i : ℕ) → i < length d → i < length s → set (paste d 0 s i) i (get_or s i 0) ≡ paste d 0 s (i + 1)
+copied_more d s i a b = let e : i ≡ 0 + i = omega arith in ap (λ j. set (paste d 0 s i) j (get_or s i 0)) e ∙ paste_more d 0 s i 0 (omega arith) b
+
+-- The bytes of the first i numbers stand in b, and those of the next, l and h, are written behind them.
+pub bytes_more : (d ns b : List ℕ) (i l h : ℕ) → b ≡ paste d 0 (bytes_of ns) (2 * i) → i < length ns → 2 * length ns ≡ length d
+    → l ≡ get_or ns i 0 % 256 → h ≡ get_or ns i 0 / 256 % 256 → set (set b (2 * i) l) (2 * i + 1) h ≡ paste d 0 (bytes_of ns) (2 * (i + 1))
+bytes_more d ns b i l h e some room el eh =
+    let s = bytes_of ns in
+    let more : length s ≡ 2 * length ns = length-bytes ns in
+    let one : set (paste d 0 s (2 * i)) (2 * i) l ≡ paste d 0 s (2 * i + 1) =
+    ap (set (paste d 0 s (2 * i)) (2 * i)) (el ∙ sym (low_of ns i)) ∙ copied_more d s (2 * i) (omega arith) (omega arith) in
+    let two : set (paste d 0 s (2 * i + 1)) (2 * i + 1) h ≡ paste d 0 s (2 * i + 1 + 1) =
+    ap (set (paste d 0 s (2 * i + 1)) (2 * i + 1)) (eh ∙ sym (high_of ns i)) ∙ copied_more d s (2 * i + 1) (omega arith) (omega arith) in
+    let last : 2 * i + 1 + 1 ≡ 2 * (i + 1) = omega arith in
+    ap (λ f. set (set f (2 * i) l) (2 * i + 1) h) e ∙ ap (λ f. set f (2 * i + 1) h) one ∙ two ∙ ap (paste d 0 s) last
 
 -- ---- The output
-
--- Bytes copied over those from `at` on.
-module _ (out part ys : List ℕ) (at : ℕ) (room : at + length part ≤ length out)
-    (e : ys ≡ take (length part) part ++ drop (length part) (take (length out - at) (drop at out))) where
-  pub copied : take at out ++ (ys ++ drop (length out - at) (drop at out)) ≡ replaced out at part
-  unfolding replaced
-  copied =
-      let k = length out - at in
-      let rest : length (drop at out) ≡ k = length-drop at out in
-      let all : take k (drop at out) ≡ drop at out = take_all k (drop at out) (omega arith) in
-      let none : drop k (drop at out) ≡ [] = drop_of_length-le (drop at out) {i = k} (omega arith) in
-      let bytes : ys ≡ part ++ drop (at + length part) out =
-      e ∙ ap (λ f. f ++ drop (length part) (take k (drop at out))) (take-length part)
-      ∙ ap (λ f. part ++ drop (length part) f) all ∙ ap (λ f. part ++ f) (drop-drop (length part) at out) in
-      ap (λ f. take at out ++ (ys ++ f)) none ∙ ap (λ f. take at out ++ f) (append-nil ys ∙ bytes)
-
-  pub copied_length : length (take at out ++ (ys ++ drop (length out - at) (drop at out))) ≡ length out
-  unfolding replaced
-  copied_length =
-      ap length copied
-      ∙ (let sum : length (replaced out at part) ≡ length out = simp (length-append, length-take, length-drop) (omega arith) in sum)
 
 -- The first bytes of the output o are `front`, and behind them stands what was there.
 pub record Begun (old front o : List ℕ) (at : ℕ) : Type 0 where
@@ -313,85 +287,74 @@ module _ (v : ℕ) (x : Sections) (old : List ℕ) {h o₁ o₂ o₃ o₄ o₅ o
 
 -- ---- The answer
 
--- A known version is small; t says whether it is unknown.
-pub version_small : (v : ℕ) (t : Bool) → t ≡ wrong_version v → t ≡ false → v < 65536
-version_small v t f known = ⊎_elim (λ (e : v ≡ 1). omega arith) (λ (e : v ≡ 2). omega arith) ((version_passes v).0 (sym f ∙ known))
+-- A refusal leaves the output as it was.
+as_it_was : (v : ℕ) (x : Sections) (out : List ℕ) (q : Refusal) → Err q ≡ write_of v x (length out) → out ≡ output_of v x out
+unfolding output_of
+as_it_was v x out q e = ap (written v x out) e
 
--- The version is unknown.
-module _ (v : ℕ) (x : Sections) (out : List ℕ) (t : Bool) (f : t ≡ wrong_version v) where
-  version_is : t ≡ true → write_of v x (length out) ≡ Refused (refusal 2 0)
-  unfolding write_of
-  version_is unknown = sym (only_hit (λ n k. Refused (refusal n k)) (Total (length (docket_of v x))) (Refused (refusal 2 0)) 2 _ t _ f unknown refl)
+-- Test 2 found w, where t says whether the version is unknown.
+module _ (v : ℕ) (x : Sections) (out : List ℕ) (t : Bool) (w : Found) (c : w ≡ where_bad refusal 2 t) (f : t ≡ wrong_version v) where
+  module _ (q : Refusal) (unknown : w ≡ Err q) where
+    pub version_answer : Err q ≡ write_of v x (length out)
+    unfolding write_of
+    version_answer = only_refuses refusal (Ok (length (docket_of v x))) (Err q) 2 _ _ w t c f q unknown refl
 
-  pub version_answer : t ≡ true → Refused (refusal 2 0) ≡ write_of v x (length out)
-  version_answer unknown = sym (version_is unknown)
+    pub version_output : out ≡ output_of v x out
+    version_output = as_it_was v x out q version_answer
 
-  pub version_output : t ≡ true → out ≡ output_of v x out
-  unfolding output_of
-  version_output unknown = sym (ap (written v x out) (version_is unknown))
+  -- The version is known; n are the lengths, z the version and the counts, and the tests behind that of the version found o.
+  module _ (known : w ≡ Ok tt) (n : Lengths) (z : Sizes) (d : n ≡ lengths_of x) (g : z ≡ cut_sizes (sizes_for v n))
+      (o : Found) (e : o ≡ parts_tested z.version x (length out)) where
+    version_same : z.version ≡ v
+    version_same = ap (λ (y : Sizes). y.version) g
 
--- The version that the counts z hold is that of the writer.
-pub sizes_self : (v : ℕ) (n : Lengths) (z : Sizes) → z ≡ cut_sizes (sizes_for v n) → z ≡ cut_sizes (sizes_for z.version n)
-sizes_self v n z g = g ∙ ap (λ u. cut_sizes (sizes_for u n)) (sym (ap (λ (y : Sizes). y.version) g))
+    tested_as : o ≡ parts_tested v x (length out)
+    tested_as = e ∙ ap (λ u. parts_tested u x (length out)) version_same
 
--- The version is known; n are the lengths, z the version and the counts, and the tests behind that of the version found o.
-module _ (v : ℕ) (x : Sections) (out : List ℕ) (t : Bool) (f : t ≡ wrong_version v) (known : t ≡ false) (n : Lengths) (z : Sizes)
-    (d : n ≡ lengths_of x) (g : z ≡ cut_sizes (sizes_for v n)) (o : Tested) (e : o ≡ parts_tested z.version x (length out)) where
-  version_same : z.version ≡ v
-  version_same = ap (λ (y : Sizes). y.version) g
+    answer : as_written (length (docket_of v x)) o ≡ write_of v x (length out)
+    unfolding write_of parts_tested
+    answer =
+        only_passes refusal (Ok (length (docket_of v x))) _ 2 _ _ w t c f known
+        (ap (as_written (length (docket_of v x))) tested_as
+        ∙ judge_map (as_written (length (docket_of v x))) (λ m k. Err (refusal m k)) (Ok tt) (part_tests v x (length out)))
 
-  tested_as : o ≡ parts_tested v x (length out)
-  tested_as = e ∙ ap (λ u. parts_tested u x (length out)) version_same
+    module _ (p : o ≡ Ok tt) where
+      total : Ok (length (docket_of v x)) ≡ write_of v x (length out)
+      total = ap (as_written (length (docket_of v x))) (sym p) ∙ answer
 
-  answer : write_of v x (length out) ≡ as_written (length (docket_of v x)) o
-  unfolding write_of parts_tested
-  answer =
-      sym (only_pass (λ n k. Refused (refusal n k)) (Total (length (docket_of v x))) _ 2 _ t _ f known
-      (ap (as_written (length (docket_of v x))) tested_as ∙ judge_map (as_written (length (docket_of v x))) failed Passed (part_tests v x (length out))))
+      passes : Passes (part_tests v x (length out))
+      unfolding parts_tested
+      passes = tested_passes refusal (part_tests v x (length out)) (sym tested_as ∙ p)
 
-  module _ (p : o ≡ Passed) where
-    total : write_of v x (length out) ≡ Total (length (docket_of v x))
-    total = answer ∙ ap (as_written (length (docket_of v x))) p
+      within : Limits (sizes_in v x)
+      within = limits (sizes_in v x) passes.1.0
 
-    passes : Passes (part_tests v x (length out))
-    unfolding parts_tested
-    passes = tested_passes (part_tests v x (length out)) (sym tested_as ∙ p)
+      sizes : z ≡ sizes_in v x
+      sizes = g ∙ ap (λ m. cut_sizes (sizes_for v m)) d ∙ cut_same (sizes_in v x) within
 
-    within : Limits (sizes_in v x)
-    within = limits (sizes_in v x) passes.1.0
+      pub fits_limits : Limits z
+      fits_limits = subst Limits (sym sizes) within
 
-    sizes : z ≡ sizes_in v x
-    sizes = g ∙ ap (λ m. cut_sizes (sizes_for v m)) d ∙ cut_same (sizes_in v x) within
+      pub has_room : 24 + length x.states + length x.rules + length x.layers + length x.nodes + length x.leaves ≤ length out
+      has_room = omega (arith, docket_length v x, ltb-false (length out) (length (docket_of v x)) (room_passes v x (length out) passes))
 
-    pub fits_limits : Limits z
-    fits_limits = subst Limits (sym sizes) within
+      module _ (h : Header) (i : h ≡ header_for z) where
+        header_version : h.sizes.version ≡ v
+        header_version = ap (λ (k : Header). k.sizes.version) i ∙ version_same
 
-    pub has_room : 24 + length x.states + length x.rules + length x.layers + length x.nodes + length x.leaves ≤ length out
-    has_room = omega (arith, docket_length v x, ltb-false (length out) (length (docket_of v x)) (room_passes v x (length out) passes))
+        pub fits_header : h ≡ header_for (sizes_in h.sizes.version x)
+        fits_header = i ∙ ap header_for sizes ∙ ap (λ u. header_for (sizes_in u x)) (sym header_version)
 
-    module _ (h : Header) (i : h ≡ header_for z) where
-      header_version : h.sizes.version ≡ v
-      header_version = ap (λ (k : Header). k.sizes.version) i ∙ version_same
+        pub written-answer : (k : ℕ) → k ≡ length (docket_of h.sizes.version x) → Ok k ≡ write_of v x (length out)
+        written-answer k j = ap Ok (j ∙ ap (λ u. length (docket_of u x)) header_version) ∙ total
 
-      pub fits_header : h ≡ header_for (sizes_in h.sizes.version x)
-      fits_header = i ∙ ap header_for sizes ∙ ap (λ u. header_for (sizes_in u x)) (sym header_version)
+        pub written_output : (l : List ℕ) → l ≡ docket_of h.sizes.version x ++ drop (length (docket_of h.sizes.version x)) out → l ≡ output_of v x out
+        unfolding output_of
+        written_output l j = j ∙ ap (λ u. docket_of u x ++ drop (length (docket_of u x)) out) header_version ∙ ap (written v x out) total
 
-      pub written-answer : (k : ℕ) → k ≡ length (docket_of h.sizes.version x) → Total k ≡ write_of v x (length out)
-      written-answer k j = ap Total (j ∙ ap (λ u. length (docket_of u x)) header_version) ∙ sym total
+    module _ (q : Refusal) (p : o ≡ Err q) where
+      pub refused_answer : (a : Result ℕ Refusal) → a ≡ Err q → a ≡ write_of v x (length out)
+      refused_answer a u = u ∙ ap (as_written (length (docket_of v x))) (sym p) ∙ answer
 
-      pub written_output : (l : List ℕ) → l ≡ docket_of h.sizes.version x ++ drop (length (docket_of h.sizes.version x)) out → l ≡ output_of v x out
-      unfolding output_of
-      written_output l j = j ∙ ap (λ u. docket_of u x ++ drop (length (docket_of u x)) out) header_version ∙ sym (ap (written v x out) total)
-
-  module _ (q : Refusal) (p : o ≡ Failed q) where
-    refusal_is : write_of v x (length out) ≡ Refused q
-    refusal_is = answer ∙ ap (as_written (length (docket_of v x))) p
-
-    pub refused_answer : Refused q ≡ write_of v x (length out)
-    refused_answer = sym refusal_is
-
-    pub refused_output : out ≡ output_of v x out
-    unfolding output_of
-    refused_output = sym (ap (written v x out) refusal_is)
-
-pub ruleset answers = (version_answer, version_output, written-answer, written_output, refused_answer, refused_output)
+      pub refused_output : out ≡ output_of v x out
+      refused_output = as_it_was v x out q (refused_answer (Err q) refl)

@@ -11,7 +11,6 @@ use Rattle.theory.specs.Below.{Clear, all_below}
 use Rattle.theory.proofs.Below.Laws.{all_elim}
 use Rattle.theory.specs.Judge.{Passes}
 use Rattle.theory.proofs.Judge.Laws.{passes_back}
-use Rattle.format.specs.Code.{Value}
 use Rattle.format.specs.Code.Laws.{width_some}
 use Rattle.format.specs.Format.{state_width, states_length, Sections}
 use Rattle.format.specs.declared.Sizes.{Sizes}
@@ -77,9 +76,6 @@ total-length v x w h = omega (arith, docket_length v x, w.states, w.rules, w.lay
 module _ (z : Sizes) (L : Limits z) where
   pub states_most : states_length z ≤ 192
   states_most = mul-le-mul (width_some z.version).1 L.states_most
-
-  pub length_most : (n : ℕ) → Value 262144 (states_length z) n → n ≤ 192
-  length_most n v = omega (arith, v.is, states_most)
 
   pub layers_most : z.layers * z.states ≤ 1024
   layers_most = mul-le-mul L.layers_most L.states_most

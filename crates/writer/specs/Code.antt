@@ -1,14 +1,10 @@
 -- What the functions of the writer answer, beside the definitions of Write.
-use Rattle.std.specs.Prelude.{List, [], ◌++◌, ℕ, ◌+◌, min, length, take, drop}
+use Rattle.std.specs.Prelude.{List, [], ◌++◌, ℕ, ◌+◌, min, length, take, drop, Result, Ok, Err}
 use Rattle.theory.specs.Judge.{judge}
 use Rattle.format.specs.Format.{Sections, sections}
 use Rattle.format.specs.declared.Sizes.{Sizes}
-use Rattle.shape.specs.Code.{failed}
-use Rattle.shape.specs.declared.Tested.{Tested}
-use Rattle.shape.specs.declared.Tested.TheVariants.{Passed, Failed}
+use Rattle.refusals.specs.Refusal.{Refusal, refusal}
 use Rattle.writer.specs.Write.{record_tests, part_tests}
-use Rattle.writer.specs.declared.Written.{Written}
-use Rattle.writer.specs.declared.Written.TheVariants.{Total, Refused}
 
 -- A count in 16 bits: the greatest stands for all that are too great, which every limit refuses.
 abbrev pub cut : ℕ → ℕ
@@ -26,23 +22,23 @@ cut_sizes z =
     }
 
 -- Tests 5 to 8, with 14, and 11, for any sizes z. They do not look at the nodes.
-unfoldable pub records_tested : Sizes → List ℕ → List ℕ → List ℕ → List ℕ → Tested
+unfoldable pub records_tested : Sizes → List ℕ → List ℕ → List ℕ → List ℕ → Result (Unit {0}) Refusal
 records_tested z states rules layers leaves =
-    judge failed Passed (record_tests z (sections states rules layers [] leaves))
+    judge (λ n k. Err (refusal n k)) (Ok tt) (record_tests z (sections states rules layers [] leaves))
 
 -- The tests of the writer behind that of the version.
-unfoldable pub parts_tested : ℕ → Sections → ℕ → Tested
-parts_tested v x room = judge failed Passed (part_tests v x room)
+unfoldable pub parts_tested : ℕ → Sections → ℕ → Result (Unit {0}) Refusal
+parts_tested v x room = judge (λ n k. Err (refusal n k)) (Ok tt) (part_tests v x room)
 
 -- What two lists of tests find, of which the second, which found o, counts where the first passes.
-abbrev pub behind : Tested → Tested → Tested
-behind Passed o = o
-behind (Failed r) o = Failed r
+abbrev pub behind : Result (Unit {0}) Refusal → Result (Unit {0}) Refusal → Result (Unit {0}) Refusal
+behind (Ok t) o = o
+behind (Err r) o = Err r
 
 -- The answer after the tests, n being the total.
-abbrev pub as_written : ℕ → Tested → Written
-as_written n Passed = Total n
-as_written n (Failed r) = Refused r
+abbrev pub as_written : ℕ → Result (Unit {0}) Refusal → Result ℕ Refusal
+as_written n (Ok t) = Ok n
+as_written n (Err r) = Err r
 
 -- The output with the bytes of a part in place of those from `at` on.
 unfoldable pub replaced : List ℕ → ℕ → List ℕ → List ℕ

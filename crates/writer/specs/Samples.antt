@@ -1,12 +1,11 @@
 -- Sections, what the writer says of them, and what it writes, by computation.
-use Rattle.std.specs.Prelude.{◌≡◌, refl, List, [], ◌∷◌, ◌++◌, ℕ, take, set, replicate}
+use Rattle.std.specs.Prelude.{◌≡◌, refl, List, [], ◌∷◌, ◌++◌, ℕ, take, set, replicate, Result, Ok, Err}
 use Rattle.format.specs.Format.{header_of, Sections, sections, sections_of}
 use Rattle.format.specs.Samples.{broadcast, majority, two_outcomes, parity, seeded, quorum}
 use Rattle.shape.specs.Samples.{shaping}
 use Rattle.leaf.specs.Leaf.{bad_leaf}
 use Rattle.writer.specs.Write.{header_bytes, docket_of, write_of, output_of}
-use Rattle.writer.specs.declared.Written.{Written}
-use Rattle.writer.specs.declared.Written.TheVariants.{Total, Refused}
+use Rattle.refusals.specs.Refusal.{Refusal}
 
 -- The names that computed cases of the writer unfold.
 unfoldable pub writing : ℕ
@@ -26,9 +25,9 @@ abbrev with_leaves : List ℕ → Sections
 with_leaves v = let x = parts broadcast in sections x.states x.rules x.layers x.nodes v
 
 -- Number and place of a refusal; 0 and the total of a docket that is written.
-abbrev said : Written → ℕ × ℕ
-said (Total n) = (0, n)
-said (Refused r) = (r.number, r.place)
+abbrev said : Result ℕ Refusal → ℕ × ℕ
+said (Ok n) = (0, n)
+said (Err r) = (r.number, r.place)
 
 -- Sections, the room that the output has, and what is said in version 1.
 abbrev samples : List (Sections × (ℕ × (ℕ × ℕ)))

@@ -1,17 +1,16 @@
 -- The writer of dockets (document 02, Jobs 3 to 5). It is told the version v and lent the bytes of the five sections, which
 -- document 02 calls parts, and an output. It makes tests 2, 31, 3, 5, 6, 7, 14, 8, 11 and 30, in this order, and writes the docket
 -- to the beginning of the output. It does not sort the rules.
-use Rattle.std.specs.Prelude.{◌≡◌, Bool, not, cond, ◌&&◌, List, [], ◌∷◌, ◌++◌, ℕ, ◌+◌, ◌*◌, ◌/◌, ◌%◌, ◌<◌, ltb, eqb, length, get_or, drop}
+use Rattle.std.specs.Prelude.{◌≡◌, Bool, not, cond, ◌&&◌, List, [], ◌∷◌, ◌++◌, ℕ, ◌+◌, ◌*◌, ◌/◌, ◌%◌, ◌<◌, ltb, eqb, length, get_or, drop, Result, Ok, Err}
 use Rattle.theory.specs.Judge.{Test, only, judge}
 use Rattle.format.specs.Format.{state_width, states_length, rules_length, layers_length, nodes_length, leaves_length, Sections}
 use Rattle.format.specs.declared.Sizes.{Sizes}
 use Rattle.format.specs.declared.Offsets.{Offsets}
 use Rattle.format.specs.declared.Header.{Header}
-use Rattle.shape.specs.Shape.{refusal, nth, version_test, count_test, section_tests}
+use Rattle.refusals.specs.Refusal.{Refusal, refusal}
+use Rattle.shape.specs.Shape.{nth, version_test, count_test, section_tests}
 use Rattle.leaf.specs.Leaf.{leaf_test}
 use Rattle.writer.specs.declared.Lengths.{Lengths}
-use Rattle.writer.specs.declared.Written.{Written}
-use Rattle.writer.specs.declared.Written.TheVariants.{Total, Refused}
 
 -- ---- Records and counts
 
@@ -132,13 +131,13 @@ abbrev pub write_tests : ℕ → Sections → ℕ → List Test
 write_tests v x room = version_test v ∷ part_tests v x room
 
 -- The answer: the total, which is the docket's length, or the first refusal that fits.
-unfoldable pub write_of : ℕ → Sections → ℕ → Written
-write_of v x room = judge (λ n k. Refused (refusal n k)) (Total (length (docket_of v x))) (write_tests v x room)
+unfoldable pub write_of : ℕ → Sections → ℕ → Result ℕ Refusal
+write_of v x room = judge (λ n k. Err (refusal n k)) (Ok (length (docket_of v x))) (write_tests v x room)
 
 -- The output `out` after this answer: the docket, and behind it what was there; after a refusal all is as it was.
-abbrev pub written : ℕ → Sections → List ℕ → Written → List ℕ
-written v x out (Total n) = docket_of v x ++ drop n out
-written v x out (Refused r) = out
+abbrev pub written : ℕ → Sections → List ℕ → Result ℕ Refusal → List ℕ
+written v x out (Ok n) = docket_of v x ++ drop n out
+written v x out (Err r) = out
 
 -- The output `out` after the call.
 unfoldable pub output_of : ℕ → Sections → List ℕ → List ℕ

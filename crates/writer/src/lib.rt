@@ -3,7 +3,7 @@
 #![tactic(auto)]
 
 ghost use Rattle.std.specs.Prelude.{◌≡◌, ◌++◌, ◌+◌, ◌*◌, ◌/◌, ◌%◌, ◌≤◌, length, drop};
-ghost use Rattle.theory.specs.Below.{first_below};
+ghost use Rattle.theory.specs.Below.Ends.{first_where};
 ghost use Rattle.format.specs.Format.{state_width, sections};
 ghost use Rattle.shape.specs.Shape.{nth};
 ghost use Rattle.shape.specs.Sound.{Limits};
@@ -12,7 +12,7 @@ ghost use Rattle.writer.specs.Write.{lengths_of, sizes_in, header_for, header_by
 ghost use Rattle.writer.specs.Code.{cut as cut_of, cut_sizes, records_tested, parts_tested, replaced};
 
 use format::{Header, Offsets, Sizes};
-use shape::{Refusal, Tested};
+use refusals::{Fault, Refusal};
 
 // How many bytes each section has.
 #[derive(Clone, Copy)]
@@ -22,13 +22,6 @@ pub struct Lengths {
     pub layers: usize,
     pub nodes: usize,
     pub leaves: usize,
-}
-
-// What the writer answers: the total length of the docket, or the refusal.
-#[derive(Clone, Copy)]
-pub enum Written {
-    Total(usize),
-    Refused(Refusal),
 }
 
 // Whether n bytes are no whole number of records of 4 bytes for each of s states. The product 4 s may not fit, so 4 divides
@@ -72,29 +65,26 @@ fn state_records(version: u16, n: usize) -> usize
     n
 }
 
-// Test 31: the first section whose length is no whole number of records, or 5.
-fn length_fault(version: u16, n: Lengths) -> u32
-    ensures { result ≡ first_below 5 (nth (length_faults version n)) }
+// Test 31: the first section whose length is no whole number of records.
+fn length_fault(version: u16, n: Lengths) -> Option<u16>
+    ensures { result ≡ first_where 5 (nth (length_faults version n)) }
 {
     let states = state_records(version, n.states);
-    shape::first_true(
+    let broken = [
         not_whole_states(version, n.states),
         n.rules % 5 != 0,
         not_whole_by_states(n.layers, states),
         n.nodes % 12 != 0,
         not_whole_by_states(n.leaves, states),
-        true,
-    )
+    ];
+    (0..5).find(|&k| broken[usize::from(k)])
 }
 
 // A count in 16 bits: every greater one becomes 65,535, which every limit refuses too.
 fn cut(n: usize) -> u16
     ensures { result ≡ cut_of n }
 {
-    if n < 65535 {
-        return n as u16;
-    }
-    65535
+    u16::try_from(n).unwrap_or(u16::MAX)
 }
 
 // The version, and the counts that the lengths give.
@@ -154,48 +144,31 @@ fn header_bytes(h: Header) -> [u8; 24]
 {
     let z = h.sizes;
     let at = h.at;
-    [
-        (z.version % 256) as u8,
-        (z.version / 256 % 256) as u8,
-        (z.states % 256) as u8,
-        (z.states / 256 % 256) as u8,
-        (z.rules % 256) as u8,
-        (z.rules / 256 % 256) as u8,
-        (z.layers % 256) as u8,
-        (z.layers / 256 % 256) as u8,
-        (z.nodes % 256) as u8,
-        (z.nodes / 256 % 256) as u8,
-        (z.leaves % 256) as u8,
-        (z.leaves / 256 % 256) as u8,
-        (at.states % 256) as u8,
-        (at.states / 256 % 256) as u8,
-        (at.rules % 256) as u8,
-        (at.rules / 256 % 256) as u8,
-        (at.layers % 256) as u8,
-        (at.layers / 256 % 256) as u8,
-        (at.nodes % 256) as u8,
-        (at.nodes / 256 % 256) as u8,
-        (at.leaves % 256) as u8,
-        (at.leaves / 256 % 256) as u8,
-        (at.total % 256) as u8,
-        (at.total / 256 % 256) as u8,
-    ]
+    let numbers = [
+        z.version, z.states, z.rules, z.layers, z.nodes, z.leaves, at.states, at.rules, at.layers,
+        at.nodes, at.leaves, at.total,
+    ];
+    let mut bytes = [0; 24];
+    for (i, n) in numbers.iter().enumerate() {
+        let [low, high] = n.to_le_bytes();
+        bytes[2 * i] = low;
+        bytes[2 * i + 1] = high;
+    }
+    bytes
 }
 
 // Tests 5 to 8, with 14, and 11 of the sections.
-fn record_tests(states: &[u8], rules: &[u8], layers: &[u8], leaves: &[u8], z: Sizes) -> Tested
+fn record_tests(
+    states: &[u8],
+    rules: &[u8],
+    layers: &[u8],
+    leaves: &[u8],
+    z: Sizes,
+) -> Result<(), Refusal>
     ensures { result ≡ records_tested z states.now rules.now layers.now leaves.now }
 {
-    let tested = shape::section_tests(states, rules, layers, z);
-    let Tested::Passed = tested else {
-        return tested;
-    };
-    let l = leaf::leaf_fault(leaves, z);
-    if l < z.leaves {
-        let place = l as u32;
-        return Tested::Failed(Refusal { number: 11, place });
-    }
-    Tested::Passed
+    shape::section_tests(states, rules, layers, z)?;
+    Fault::Leaf.at(leaf::leaf_fault(leaves, z))
 }
 
 // The tests of the writer behind that of the version: n are the lengths of the sections, z the version and their counts in 16
@@ -209,48 +182,31 @@ fn write_tests(
     n: Lengths,
     z: Sizes,
     room: usize,
-) -> Tested
+) -> Result<(), Refusal>
     requires lengths { n ≡ lengths_of (sections states.now rules.now layers.now nodes.now leaves.now) }
     requires sizes { z ≡ cut_sizes (sizes_for z.version n) }
     ensures { let x =
         sections states.now rules.now layers.now nodes.now leaves.now in
         result ≡ parts_tested z.version x room }
 {
-    let place = length_fault(z.version, n);
-    if place < 5 {
-        return Tested::Failed(Refusal { number: 31, place });
-    }
-    let place = shape::count_fault(z);
-    if place < 5 {
-        return Tested::Failed(Refusal { number: 3, place });
-    }
-    let tested = record_tests(states, rules, layers, leaves, z);
-    let Tested::Passed = tested else {
-        return tested;
-    };
-    let h = header_for(z);
-    if room < (h.at.total as usize) {
-        return Tested::Failed(Refusal {
-            number: 30,
-            place: 0,
-        });
-    }
-    Tested::Passed
+    Fault::Records.at(length_fault(z.version, n))?;
+    Fault::Counts.at(shape::count_fault(z))?;
+    record_tests(states, rules, layers, leaves, z)?;
+    Fault::Room.when(room < usize::from(header_for(z).at.total))
 }
 
 // Copies the part over the bytes of the output from `at` on, and returns where it ends.
+// It is a loop since `copy_from_slice` would need `memmove`, which include/docket.h does not name.
 fn put(out: &mut [u8], at: usize, part: &[u8]) -> usize
     requires { at + length part.now ≤ length out.old }
     ensures end { result ≡ at + length part.now }
     ensures room { length out.new ≡ length out.old }
     ensures output { out.new ≡ replaced out.old at part.now }
 {
-    let mut i: usize = 0;
-    while i < part.len() {
-        out[at + i] = part[i];
-        i += 1;
+    for (i, byte) in part.iter().enumerate() {
+        out[at + i] = *byte;
     }
-    at + i
+    at + part.len()
 }
 
 // Writes the docket of the sections to the beginning of the output, and returns its length.
@@ -291,7 +247,7 @@ pub fn write(
     nodes: &[u8],
     leaves: &[u8],
     out: &mut [u8],
-) -> Written
+) -> Result<usize, Refusal>
     ensures answer { let x =
         sections states.now rules.now layers.now nodes.now leaves.now in
         result ≡ write_of version x (length out.old) }
@@ -299,20 +255,10 @@ pub fn write(
         sections states.now rules.now layers.now nodes.now leaves.now in
         out.new ≡ output_of version x out.old }
 {
-    if shape::version_fault(version) {
-        return Written::Refused(Refusal {
-            number: 2,
-            place: 0,
-        });
-    }
+    Fault::Version.when(shape::version_fault(version))?;
     let n = measure(states, rules, layers, nodes, leaves);
     let z = sizes_for(version as u16, n);
-    let tested = write_tests(states, rules, layers, nodes, leaves, n, z, out.len());
-    match tested {
-        Tested::Passed => {
-            let h = header_for(z);
-            Written::Total(put_docket(states, rules, layers, nodes, leaves, h, out))
-        }
-        Tested::Failed(r) => Written::Refused(r),
-    }
+    write_tests(states, rules, layers, nodes, leaves, n, z, out.len())?;
+    let h = header_for(z);
+    Ok(put_docket(states, rules, layers, nodes, leaves, h, out))
 }

@@ -1,10 +1,8 @@
--- A word of the set; past the last one there is none.
-use Rattle.bits.specs.Code.Laws.{word_at, word_past}
+-- A word of the set; past the last one it is 0.
+use Rattle.std.proofs.lemmas.Option.{unwrap_or-slice_get}
 use Rattle.std.proofs.Common.{rules}
+use Rattle.bits.specs.Code.Laws.{word_at}
 use Rattle.bits.proofs.word.Goals as goal
 
-pub returns-then-q-lt4 : goal.returns-then-q-lt4
-returns-then-q-lt4 c = search (word_at, word_past, rules)
-
-pub returns-else-q-lt4 : goal.returns-else-q-lt4
-returns-else-q-lt4 c = search (word_at, word_past, rules)
+pub returns : goal.returns
+returns c = search (word_at, unwrap_or-slice_get, rules)

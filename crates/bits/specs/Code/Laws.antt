@@ -2,7 +2,7 @@
 -- bound it is of every number. Assumes nothing.
 use Rattle.std.specs.Prelude.{◌≡◌, refl, Bool, true, false, not, ◌&&◌, ◌||◌, List, length, get_or, set, replicate}
 use Rattle.std.proofs.Math.Path.{sym, ap, fun_ext}
-use Rattle.std.proofs.Common.{◌∙◌, zero-mul, mod-lt, pow-suc, div-one, lt_of_lt_of_le, one-mul, one-add, pow_pos, pow_mono, shr-shr, shl_exact, Fits, get_or-set_other}
+use Rattle.std.proofs.Common.{◌∙◌, subst, zero-mul, mod-lt, pow-suc, div-one, lt_of_lt_of_le, one-mul, one-add, pow_pos, pow_mono, shr-shr, shl_exact, get_or-set_other}
 use Rattle.std.specs.Bool.{beq}
 use Rattle.std.proofs.Math.Bool.{and-false, and-true, and_comm, or-false}
 use Rattle.std.proofs.Math.Logic.{by_cases}
@@ -14,9 +14,7 @@ use Rattle.std.proofs.Math.Arith.{digits_mod, digits_div, lt_of_le-ne, lt-one, b
 use Rattle.std.specs.Int.Bits.{bit_and, bit_or, and_step, or_step}
 use Rattle.std.proofs.lemmas.Nat.{and_le_l}
 use Rattle.std.specs.Int.Count.{ones, ones_step, count_trailing_zeros}
-use Rattle.std.specs.Int.{w64}
 use Rattle.std.proofs.Math.Dec.{eqb, ltb, eqb-zero-suc, eqb-suc-zero, eqb-suc-suc, leb-suc-suc}
-use Rattle.std.proofs.Math.ListN.{get_or-eq_default}
 use Rattle.std.proofs.Math.Seq.{get_or-set_same}
 use borrow.Author.Tests.{eq-eqb, ne_eqb, lt-ltb, le-ltb, ltb-true, ltb-false, eqb-true, eqb-false}
 use Rattle.theory.specs.Bool.{member, imp, bit}
@@ -24,7 +22,7 @@ use Rattle.theory.proofs.Bool.Laws.{by_test, not_both, is_false, and_elim, beq_t
 use Rattle.theory.specs.Below.{all_below, first_below, sum_below}
 use Rattle.theory.proofs.Below.Laws.{all_elim, all_intro, all_fails, sum-front}
 use Rattle.theory.proofs.Below.Scan.{at_end}
-use Rattle.bits.specs.Code.{single_of, full_of, among_of, union_of, with_if, without_of, in_words, in_word, first_words}
+use Rattle.bits.specs.Code.{single_of, full_of, among_of, union_of, with_if, without_of, in_words, in_word, first_words, Among}
 
 -- ---- The lowest digit and the others
 
@@ -215,10 +213,10 @@ zero_times : (m : ℕ) → 0 * m % 2 ^ 64 ≡ 0
 zero_times m = rw (zero-mul m)
 
 -- The bit of a test at place i.
-pub with_if_is : (t : Bool) (i w u v : ℕ) → i < 64 → u ≡ bit t * 2 ^ i % 2 ^ 64 → member v ≡ union_of w u → member v ≡ with_if t i w
+pub with_if_is : (t : Bool) (i w b v : ℕ) → i < 64 → b ≡ bit t → member v ≡ union_of w (b * 2 ^ i % 2 ^ 64) → member v ≡ with_if t i w
 unfolding with_if
-with_if_is true i w u v h e d = let o : member u ≡ single_of i = rw e (single_is i h) in d ∙ fun_ext (λ j. ap (λ (A : ℕ → Bool). member w j || A j) o)
-with_if_is false i w u v h e d = let z : u ≡ 0 = e ∙ zero_times (2 ^ i) in d ∙ fun_ext (λ j. ap (λ b. member w j || b) (rw z (member_none j)))
+with_if_is true i w b v h e d = rw e at d ∙ fun_ext (λ j. ap (λ (A : ℕ → Bool). member w j || A j) (single_is i h))
+with_if_is false i w b v h e d = rw e at d ∙ fun_ext (λ j. ap (λ x. member w j || x) (rw (zero_times (2 ^ i), member_none j)))
 
 pub with_if_none : (t : Bool) (i w : ℕ) → 64 ≤ i → member w ≡ with_if t i w
 unfolding with_if
@@ -320,6 +318,51 @@ module _ (f : ℕ → Bool) where
 
 pub ruleset gathering = (among_none, among_more, among_done)
 
+-- ---- A set gathered by a test that the caller hands in: at the start, after a turn with the answer t, at the end
+
+module _ (Gives : ℕ → Bool → Type 0) where
+  pub gather_none : Among Gives 0 0
+  gather_none = record { inside = λ i l m. absurd (omega arith); beyond = λ i l. member_none i }
+
+  -- The members after a turn: i where the test passed, and those from before.
+  turn : (i w v : ℕ) (t : Bool) → member v ≡ with_if t i w → (s : ℕ) → member v s ≡ member w s || (t && (ltb s 64 && eqb i s))
+  unfolding with_if
+  turn i w v t d s = ap (λ (A : ℕ → Bool). A s) d
+
+  turn_other : (i w v : ℕ) (t : Bool) → member v ≡ with_if t i w → (s : ℕ) → (i ≡ s → ⊥) → member w s ≡ member v s
+  turn_other i w v t d s q =
+      sym (turn i w v t d s ∙ rw (ne_eqb i s q, and-false (ltb s 64), and-false t) (or-false (member w s)))
+
+  turn_here : (i w v : ℕ) (t : Bool) → member v ≡ with_if t i w → member w i ≡ false → i < 64 → t ≡ member v i
+  turn_here i w v t d e l = sym (turn i w v t d i ∙ rw (e, lt-ltb i 64 l, eq-eqb i i refl) (and-true t))
+
+  pub gather_more : (i w v : ℕ) (t : Bool) → Among Gives i w → Gives i t → member v ≡ with_if t i w → Among Gives (i + 1) v
+  gather_more i w v t h g d =
+      record {
+        inside = λ s l m.
+            by_cases (dec_lt s i)
+            (λ b. subst (Gives s) (turn_other i w v t d s (λ e. omega arith)) (h.inside s b m))
+            (λ b.
+            let q : i ≡ s = omega arith in
+            subst (λ j. Gives j (member v j)) q
+            (subst (Gives i) (turn_here i w v t d (h.beyond i (omega arith)) (omega arith)) g));
+        beyond = λ s l. sym (turn_other i w v t d s (λ e. omega arith)) ∙ h.beyond s (omega arith);
+      }
+
+  -- Where the test computes f, they are the numbers that pass f.
+  pub gathered : (n w : ℕ) (f : ℕ → Bool) → Among Gives n w → w < 2 ^ 64 → ((i : ℕ) (t : Bool) → i < n → Gives i t → t ≡ f i)
+      → member w ≡ among_of n f
+  unfolding among_of
+  gathered n w f h l computes =
+      fun_ext
+      (λ s.
+      by_cases (dec_lt s 64)
+      (λ m.
+      by_cases (dec_lt s n)
+      (λ b. computes s (member w s) b (h.inside s b m) ∙ sym (rw (lt-ltb s 64 m, lt-ltb s n b)))
+      (λ b. h.beyond s (omega arith) ∙ sym (rw (lt-ltb s 64 m, le-ltb s n (omega arith)))))
+      (λ m. member_above 64 w s l (omega arith) ∙ sym (rw (le-ltb s 64 (omega arith)))))
+
 -- ---- Sets in an array of words
 
 zeros : (n i : ℕ) → get_or {A = ℕ} (replicate n 0) i 0 ≡ 0
@@ -331,29 +374,18 @@ words_none : (n i : ℕ) → in_words (replicate n 0) i ≡ false
 unfolding in_words
 words_none n i = rw (zeros n (i / 64)) (member_none (i % 64))
 
--- One word of the set.
-pub word_at : (ws : List ℕ) (q : ℕ) → Fits w64 (get_or ws q 0) → member (get_or ws q 0) ≡ in_word q (in_words ws)
+-- One word of the set; past the last one it is 0.
+pub word_at : (ws : List ℕ) (q w : ℕ) → w ≡ get_or ws q 0 → w < 2 ^ 64 → member w ≡ in_word q (in_words ws)
 unfolding in_word in_words
-word_at ws q h =
+word_at ws q w e h =
     fun_ext
     (λ i.
     by_cases (dec_lt i 64)
     (λ l.
     let a : (64 * q + i) / 64 ≡ q = omega arith in
     let b : (64 * q + i) % 64 ≡ i = omega arith in
-    rw (lt-ltb i 64 l, a, b))
-    (λ g. rw (le-ltb i 64 (omega arith)) (member_above 64 (get_or ws q 0) i h.fits (omega arith))))
-
-pub word_past : (ws : List ℕ) (q : ℕ) → length ws ≡ 4 → 4 ≤ q → member 0 ≡ in_word q (in_words ws)
-unfolding in_word in_words
-word_past ws q n h =
-    fun_ext
-    (λ i.
-    by_cases (dec_lt i 64)
-    (λ l.
-    let a : length ws ≤ (64 * q + i) / 64 = omega arith in
-    rw (lt-ltb i 64 l, get_or-eq_default ws 0 a, member_none i) (sym (member_none ((64 * q + i) % 64))))
-    (λ g. rw (le-ltb i 64 (omega arith)) (member_none i)))
+    rw (lt-ltb i 64 l, a, b, e))
+    (λ g. rw (le-ltb i 64 (omega arith)) (member_above 64 w i h (omega arith))))
 
 -- The numbers of A are gathered word by word.
 module _ (A : ℕ → Bool) where

@@ -1,17 +1,13 @@
 -- `checker::check` meets its contract: a refused shape is passed back.
+use Rattle.std.proofs.Common.{rules, sym}
 use Rattle.checker.specs.Check.{check_of}
-use Rattle.shape.proofs.ShapeLaws.{sound_then, sound_else}
-use Rattle.shape.proofs.SoundLaws.{sound_at}
-use Rattle.std.proofs.Common.{rules}
+use Rattle.checker.specs.Check.Laws.{certified_check}
+use Rattle.shape.proofs.ShapeLaws.{sound_else}
 use Rattle.checker.proofs.check.Goals as goal
 
-pub returns-in_default : goal.returns-in_default
-unfolding check_of
-returns-in_default c = search (sound_else, rules)
+pub returns-in-Ok : goal.returns-in-Ok
+returns-in-Ok c = sym (certified_check c.in-Ok.docket c.args.docket.now _ c.certificate.ensures (search rules))
 
-pub certificate-requires : goal.certificate-requires
-certificate-requires c = search (sound_at, rules)
-
-pub returns : goal.returns
+pub returns-in-Err : goal.returns-in-Err
 unfolding check_of
-returns c = search (sound_then, rules)
+returns-in-Err c = search (sound_else, rules)

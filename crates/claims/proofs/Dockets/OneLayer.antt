@@ -1,6 +1,7 @@
 -- Sample P11: majority with all four rules in one layer is refused by number 9, whatever the weights within their limits.
 -- Assumes nothing.
-use Rattle.std.specs.Prelude.{◌≡◌, Bool, false, not, List, [], ltb}
+use Rattle.refusals.specs.Refusal.{refusal}
+use Rattle.std.specs.Prelude.{◌≡◌, Bool, false, not, List, [], ltb, Ok, Err}
 use Rattle.std.proofs.Math.Path.{refl, sym, ap}
 use Rattle.std.proofs.Common.{◌∙◌}
 use Rattle.std.proofs.Math.Logic.{by_cases}
@@ -15,10 +16,8 @@ use Rattle.format.specs.Bytes.{le16, le32}
 use Rattle.format.specs.Format.{header_of, sections_of, protocol_in, layers_in, weight_in}
 use Rattle.format.specs.declared.Header.{Header}
 use Rattle.theory.proofs.Judge.Laws.{judge_hit, passes-judge}
-use Rattle.shape.specs.Shape.{refusal, by_shape, bad_state, repeats, out_of_order, bad_layer, shape_tests, header_shape, shape_of}
-use Rattle.shape.specs.declared.Shape.TheVariants as shape
+use Rattle.shape.specs.Shape.{by_shape, bad_state, repeats, out_of_order, bad_layer, shape_tests, header_shape, shape_of}
 use Rattle.checker.specs.Check.{sections_check, check_of}
-use Rattle.checker.specs.declared.Checked.TheVariants.{Refused}
 use Rattle.claims.specs.Dockets.{word, one_layer}
 
 -- The bytes of a weight read as the weight.
@@ -46,9 +45,9 @@ module _ (x y z t : ℕ) (lx : x ≤ 1000000) (ly : y ≤ 1000000) (lz : z ≤ 1
   layer zero l = weights
   layer (suc k) l = absurd (omega arith)
 
-  sound : shape_of b ≡ shape.Sound h
+  sound : shape_of b ≡ Ok h
   unfolding shape_of header_shape bad_state repeats out_of_order first_below any_below le16
-  sound = passes-judge (λ n k. shape.Refused (refusal n k)) (shape.Sound h) (shape_tests b h)
+  sound = passes-judge (λ n k. Err (refusal n k)) (Ok h) (shape_tests b h)
       (none _ _ refl, (none _ _ refl, (none _ _ refl, (none _ _ refl, (none _ _ refl, (none _ _ refl, (none _ _ refl, (none _ _ refl, (layer, tt)))))))))
 
   -- Rules 1 and 2 cannot both lower: one needs more weight of b than of a, the other less.
@@ -63,11 +62,11 @@ module _ (x y z t : ℕ) (lx : x ≤ 1000000) (ly : y ≤ 1000000) (lz : z ≤ 1
   rule : ℕ
   rule = first_below 4 (λ r. not (lowers_at (protocol_in b h) (layers_in b h) (weight_in b h) r))
 
-  pub one_layer_lem : (k : ℕ) × (check_of b ≡ Refused (refusal 9 k))
+  pub one_layer_lem : (k : ℕ) × (check_of b ≡ Err (refusal 9 k))
   unfolding check_of sections_check le16 rule
   one_layer_lem = (
     rule,
-    ap (by_shape Refused (λ k. sections_check k.sizes (sections_of b k))) sound
-        ∙ sym (judge_hit (λ n k. Refused (refusal n k)) _ (Refused (refusal 9 rule)) _ _ rule refl
+    ap (by_shape Err (λ k. sections_check k.sizes (sections_of b k))) sound
+        ∙ sym (judge_hit (λ n k. Err (refusal n k)) _ (Err (refusal 9 rule)) _ _ rule refl
         (by_cases (dec_lt rule 4) (λ l. l) (λ g. absurd (fails (first_clear 4 _ (omega arith))))) refl),
   )

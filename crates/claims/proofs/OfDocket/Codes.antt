@@ -1,5 +1,7 @@
 -- The numbers that C sees tell the answers. Assumes nothing.
-use Rattle.std.specs.Prelude.{◌≡◌, Bool, cond, List, [], ◌∷◌, ◌++◌, ◌↔◌, ◌⊎◌, ℕ, ◌≤◌, ◌<◌, ltb}
+use Rattle.checker.specs.declared.Summary.{Summary}
+use Rattle.refusals.specs.Refusal.{Refusal, refusal}
+use Rattle.std.specs.Prelude.{◌≡◌, Bool, cond, List, [], ◌∷◌, ◌++◌, ◌↔◌, ◌⊎◌, ℕ, ◌≤◌, ◌<◌, ltb, Result, Ok, Err, Option, Some, None}
 use Rattle.std.proofs.Math.Path.{refl}
 use Rattle.std.proofs.Common.{sym, ap, ◌∙◌, subst, true≢false, append-nil, inr, ⊎_elim}
 use Rattle.std.proofs.Math.Bool.{true, false}
@@ -15,26 +17,13 @@ use Rattle.theory.proofs.Subtree.Laws.{place-within}
 use Rattle.theory.specs.Machine.{Call, step, run, Reply, stepped, ran, refused, is_sized, is_within, admit, step_reply, run_reply, reply}
 use Rattle.format.specs.Format.{header_of, sections_of, protocol_in, layers_in}
 use Rattle.format.specs.declared.Header.{Header}
-use Rattle.shape.specs.Shape.{refusal, shape_tests, shape_of, by_shape}
+use Rattle.shape.specs.Shape.{shape_tests, shape_of, by_shape}
 use Rattle.shape.specs.Sound.{Limits, SoundShape}
 use Rattle.shape.proofs.SoundLaws.{limits, sound_shape}
-use Rattle.shape.specs.declared.Refusal.{Refusal}
-use Rattle.shape.specs.declared.Shape as shapes
-use Rattle.shape.specs.declared.Shape.TheVariants as shape
 use Rattle.checker.specs.Check.{certificate_tests, check_of}
-use Rattle.checker.specs.declared.Checked.{Checked}
-use Rattle.checker.specs.declared.Checked.TheVariants.{Accepted, Refused}
 use Rattle.machine.specs.Calls.{start_answer, pairs_answer, terminal_answer, verdict_as, verdict_answer}
 use Rattle.machine.specs.Calls.{start_of, pairs_of, terminal_of, verdict_of, reply_of}
-use Rattle.machine.specs.declared.Started as starteds
-use Rattle.machine.specs.declared.Started.TheVariants as started
-use Rattle.machine.specs.declared.Pairs as paireds
-use Rattle.machine.specs.declared.Pairs.TheVariants as paired
-use Rattle.machine.specs.declared.YesNo as answers
-use Rattle.machine.specs.declared.YesNo.TheVariants as answer
-use Rattle.machine.specs.declared.Verdict as verdicts
-use Rattle.machine.specs.declared.Verdict.TheVariants as shown
-use Rattle.codes.specs.Codes.{check_code, start_code, pairs_code, yes_no_code, verdict_code, reply_code}
+use Rattle.codes.specs.Codes.{check_code, answer_code, reply_code}
 use Rattle.claims.specs.OfDocket.{pass_back, CodesTell}
 use Rattle.claims.proofs.OfDocket.Numbers.{is_one_of, check_numbers, call_numbers}
 use Rattle.claims.proofs.OfDocket.Numbers.{check_number, start_number, pairs_number, answer_number, verdict_number, reply_number}
@@ -48,31 +37,31 @@ use Rattle.claims.proofs.OfDocket.Refusals.{refusal_is}
 pub not_zero : (n : ℕ) (ns : List ℕ) → is_one_of n ns ≡ true → is_one_of 0 ns ≡ false → n ≡ 0 → ⊥
 not_zero n ns p q e = true≢false (sym p ∙ ap (λ m. is_one_of m ns) e ∙ q)
 
-check_zero : (a : Checked) → is_one_of (check_number a) check_numbers ≡ true → (check_code a ≡ 0) → (f : _) × (a ≡ Accepted f)
+check_zero : (a : Result Summary Refusal) → is_one_of (check_number a) check_numbers ≡ true → (check_code a ≡ 0) → (f : _) × (a ≡ Ok f)
 unfolding is_one_of
-check_zero (Accepted f) p e = (f, refl)
-check_zero (Refused r) p e = absurd (not_zero r.number check_numbers p refl (omega arith))
+check_zero (Ok f) p e = (f, refl)
+check_zero (Err r) p e = absurd (not_zero r.number check_numbers p refl (omega arith))
 
-start_zero : (a : starteds.Started) → is_one_of (start_number a) (call_numbers ++ 22 ∷ []) ≡ true → start_code a ≡ 0 → a ≡ started.Start
+start_zero : (a : Result (Unit {0}) Refusal) → is_one_of (start_number a) (call_numbers ++ 22 ∷ []) ≡ true → answer_code a ≡ 0 → a ≡ Ok tt
 unfolding is_one_of
-start_zero started.Start p e = refl
-start_zero (started.Refused r) p e = absurd (not_zero r.number (call_numbers ++ 22 ∷ []) p refl (omega arith))
+start_zero (Ok t) p e = refl
+start_zero (Err r) p e = absurd (not_zero r.number (call_numbers ++ 22 ∷ []) p refl (omega arith))
 
-pairs_zero : (a : paireds.Pairs) → is_one_of (pairs_number a) (call_numbers ++ 23 ∷ []) ≡ true → pairs_code a ≡ 0 → (n : ℕ) × (a ≡ paired.Number n)
+pairs_zero : (a : Result ℕ Refusal) → is_one_of (pairs_number a) (call_numbers ++ 23 ∷ []) ≡ true → answer_code a ≡ 0 → (n : ℕ) × (a ≡ Ok n)
 unfolding is_one_of
-pairs_zero (paired.Number n) p e = (n, refl)
-pairs_zero (paired.Refused r) p e = absurd (not_zero r.number (call_numbers ++ 23 ∷ []) p refl (omega arith))
+pairs_zero (Ok n) p e = (n, refl)
+pairs_zero (Err r) p e = absurd (not_zero r.number (call_numbers ++ 23 ∷ []) p refl (omega arith))
 
-yes_no_zero : (a : answers.YesNo) → is_one_of (answer_number a) call_numbers ≡ true → yes_no_code a ≡ 0 → (t : Bool) × (a ≡ answer.Is t)
+yes_no_zero : (a : Result Bool Refusal) → is_one_of (answer_number a) call_numbers ≡ true → answer_code a ≡ 0 → (t : Bool) × (a ≡ Ok t)
 unfolding is_one_of
-yes_no_zero (answer.Is t) p e = (t, refl)
-yes_no_zero (answer.Refused r) p e = absurd (not_zero r.number call_numbers p refl (omega arith))
+yes_no_zero (Ok t) p e = (t, refl)
+yes_no_zero (Err r) p e = absurd (not_zero r.number call_numbers p refl (omega arith))
 
-verdict_zero : (a : verdicts.Verdict) → is_one_of (verdict_number a) call_numbers ≡ true → (verdict_code a ≡ 0) ↔ ((r : Refusal) → a ≡ shown.Refused r → ⊥)
+verdict_zero : (a : Result (Option Bool) Refusal) → is_one_of (verdict_number a) call_numbers ≡ true → (answer_code a ≡ 0) ↔ ((r : Refusal) → a ≡ Err r → ⊥)
 unfolding is_one_of
-verdict_zero (shown.Agreed v) p = (λ e r q. let z : ◌≡◌ {A = ℕ} 0 1 = cc in omega arith, λ _. refl)
-verdict_zero shown.Mixed p = (λ e r q. let z : ◌≡◌ {A = ℕ} 0 1 = cc in omega arith, λ _. refl)
-verdict_zero (shown.Refused r) p = (λ e _ _. not_zero r.number call_numbers p refl (omega arith), λ none. absurd (none r refl))
+verdict_zero (Ok (Some v)) p = (λ e r q. let z : ◌≡◌ {A = ℕ} 0 1 = cc in omega arith, λ _. refl)
+verdict_zero (Ok None) p = (λ e r q. let z : ◌≡◌ {A = ℕ} 0 1 = cc in omega arith, λ _. refl)
+verdict_zero (Err r) p = (λ e _ _. not_zero r.number call_numbers p refl (omega arith), λ none. absurd (none r refl))
 
 reply_zero : (ns : List ℕ) → is_one_of 0 ns ≡ false → (a : Reply) → is_one_of (reply_number a) ns ≡ true
     → (reply_code a ≡ 0) ↔ ((n k : ℕ) → a ≡ refused n k → ⊥)
@@ -121,7 +110,7 @@ tests-place b vs few n k f =
     (fits_split _ _ n k s1.1))
     (fits_split _ _ n k f)
 
-check_place : (b : List ℕ) (n k : ℕ) → check_of b ≡ Refused (refusal n k) → k < 65536
+check_place : (b : List ℕ) (n k : ℕ) → check_of b ≡ Err (refusal n k) → k < 65536
 check_place b n k e =
     let h = header_of b in
     ⊎_elim
@@ -132,7 +121,7 @@ check_place b n k e =
 
 -- ---- Places of the calls
 
-shape_place : (b : List ℕ) (r : Refusal) → shape_of b ≡ shape.Refused r → r.place < 65536
+shape_place : (b : List ℕ) (r : Refusal) → shape_of b ≡ Err r → r.place < 65536
 shape_place b r e =
     tests-place b [] (λ _. tt) r.number r.place
     (subst (λ ts. FirstFits ts r.number r.place) (sym (append-nil (shape_tests b (header_of b)))) ((shape_refusal_is b r.number r.place).0 e))
@@ -149,27 +138,27 @@ module _ (b c : List ℕ) {A : Type 0} (refuse : Refusal → A) (f : Header → 
       on h sound true false = small (refusal 21 0) (omega arith)
       on h sound false t = small (refusal 20 0) (omega arith)
 
-      go : (s : shapes.Shape) → shape_of b ≡ s → Q (by_shape refuse (λ h. admit (protocol_in b h) c (λ n. refuse (refusal n 0)) (f h)) s)
-      go (shape.Sound h) e = on h (sound_shape b h e) (is_sized (protocol_in b h) c) (is_within c)
-      go (shape.Refused r) e = small r (shape_place b r e)
+      go : (s : Result Header Refusal) → shape_of b ≡ s → Q (by_shape refuse (λ h. admit (protocol_in b h) c (λ n. refuse (refusal n 0)) (f h)) s)
+      go (Ok h) e = on h (sound_shape b h e) (is_sized (protocol_in b h) c) (is_within c)
+      go (Err r) e = small r (shape_place b r e)
 
 -- The place of an answer, 0 where it is no refusal.
-abbrev place_of_start : starteds.Started → ℕ
-place_of_start started.Start = 0
-place_of_start (started.Refused r) = r.place
+abbrev place_of_start : Result (Unit {0}) Refusal → ℕ
+place_of_start (Ok t) = 0
+place_of_start (Err r) = r.place
 
-abbrev pairs_place : paireds.Pairs → ℕ
-pairs_place (paired.Number n) = 0
-pairs_place (paired.Refused r) = r.place
+abbrev pairs_place : Result ℕ Refusal → ℕ
+pairs_place (Ok n) = 0
+pairs_place (Err r) = r.place
 
-abbrev answer_place : answers.YesNo → ℕ
-answer_place (answer.Is t) = 0
-answer_place (answer.Refused r) = r.place
+abbrev answer_place : Result Bool Refusal → ℕ
+answer_place (Ok t) = 0
+answer_place (Err r) = r.place
 
-abbrev place_of_verdict : verdicts.Verdict → ℕ
-place_of_verdict (shown.Agreed v) = 0
-place_of_verdict shown.Mixed = 0
-place_of_verdict (shown.Refused r) = r.place
+abbrev place_of_verdict : Result (Option Bool) Refusal → ℕ
+place_of_verdict (Ok (Some v)) = 0
+place_of_verdict (Ok None) = 0
+place_of_verdict (Err r) = r.place
 
 abbrev reply_place : Reply → ℕ
 reply_place stepped = 0
@@ -180,7 +169,7 @@ module _ (b c : List ℕ) where
   start_place : place_of_start (start_of b c) < 65536
   unfolding start_of start_answer
   start_place =
-      by_answer b c started.Refused _ (λ a. place_of_start a < 65536) (λ r l. l)
+      by_answer b c Err _ (λ a. place_of_start a < 65536) (λ r l. l)
       (λ h sound.
       let P = protocol_in b h in
       by_test (ltb (start_test P c) P.states)
@@ -190,21 +179,21 @@ module _ (b c : List ℕ) where
   can_act_place : (r : ℕ) → (pairs_place (pairs_of b c r) < 65536) ⊎ (pairs_place (pairs_of b c r) ≡ r)
   unfolding pairs_of pairs_answer
   can_act_place r =
-      by_answer b c paired.Refused _ (λ a. (pairs_place a < 65536) ⊎ (pairs_place a ≡ r)) (λ q l. inl l)
+      by_answer b c Err _ (λ a. (pairs_place a < 65536) ⊎ (pairs_place a ≡ r)) (λ q l. inl l)
       (λ h sound. by_test (ltb r h.sizes.rules) (λ e. rw e (inl (omega arith))) (λ e. rw e (inr refl)))
 
   standstill_place : answer_place (terminal_of b c) < 65536
   unfolding terminal_of terminal_answer
   standstill_place =
-      by_answer b c answer.Refused (λ h. answer.Is (terminal (protocol_in b h) c)) (λ a. answer_place a < 65536) (λ r l. l) (λ h sound. omega arith)
+      by_answer b c Err (λ h. Ok (terminal (protocol_in b h) c)) (λ a. answer_place a < 65536) (λ r l. l) (λ h sound. omega arith)
 
   verdict_place : place_of_verdict (verdict_of b c) < 65536
   unfolding verdict_of verdict_answer
   verdict_place =
-      by_answer b c shown.Refused (λ h. verdict_as (output_of (protocol_in b h) c)) (λ a. place_of_verdict a < 65536) (λ r l. l)
+      by_answer b c Err (λ h. Ok (verdict_as (output_of (protocol_in b h) c))) (λ a. place_of_verdict a < 65536) (λ r l. l)
       (λ h sound. own (output_of (protocol_in b h) c))
     where
-      own : (v : protocol.Output) → place_of_verdict (verdict_as v) < 65536
+      own : (v : protocol.Output) → place_of_verdict (Ok (verdict_as v)) < 65536
       own (protocol.agreed v) = omega arith
       own protocol.mixed = omega arith
 
@@ -238,9 +227,9 @@ pub codes_tell : (b c : List ℕ) → CodesTell b c
 unfolding is_one_of
 codes_tell b c = record {
   check = (check_zero (check_of b) (check-number b), λ a. ap check_code a.1);
-  start = (start_zero (start_of b c) (start_number_lem b c), λ e. ap start_code e);
-  can_act = λ r. (pairs_zero (pairs_of b c r) (pairs-number b c r), λ s. ap pairs_code s.1);
-  standstill = (yes_no_zero (terminal_of b c) (terminal-number b c), λ s. ap yes_no_code s.1);
+  start = (start_zero (start_of b c) (start_number_lem b c), λ e. ap answer_code e);
+  can_act = λ r. (pairs_zero (pairs_of b c r) (pairs-number b c r), λ s. ap answer_code s.1);
+  standstill = (yes_no_zero (terminal_of b c) (terminal-number b c), λ s. ap answer_code s.1);
   verdict = verdict_zero (verdict_of b c) (verdict_number_lem b c);
   of_call = call_zero b c;
   check_place = check_place b;

@@ -1,6 +1,6 @@
 -- The check accepts a docket just where it keeps every rule of document 01. Assumes nothing.
-use Rattle.std.specs.Prelude.{◌≡◌, refl, true, List, ℕ, eqb}
-use Rattle.std.proofs.Common.{sym, ◌∙◌, arith}
+use Rattle.std.specs.Prelude.{◌≡◌, refl, true, List, ℕ, eqb, Result, Ok, Err}
+use Rattle.std.proofs.Common.{sym, subst, ◌∙◌, arith}
 use Rattle.std.proofs.Math.Path.{ap}
 use Rattle.std.proofs.Math.Bool.{not}
 use borrow.Author.Tests.{ltb-true, lt-ltb, eqb-true, not-false}
@@ -17,8 +17,9 @@ use Rattle.theory.proofs.Tree.Laws.{refused_not_next}
 use Rattle.theory.specs.Subtree.{TreeStands}
 use Rattle.theory.specs.Claims.{Certified}
 use Rattle.theory.proofs.Claims.Proved.{theorems}
-use Rattle.format.specs.Format.{Sections, sections_of, protocol_in, layers_in, weight_in, weights_of}
+use Rattle.format.specs.Format.{header_of, Sections, sections_of, protocol_in, layers_in, weight_in, weights_of}
 use Rattle.format.specs.declared.Header.{Header}
+use Rattle.refusals.specs.Refusal.{Refusal}
 use Rattle.shape.specs.Shape.{by_shape}
 use Rattle.shape.specs.Sound.{SoundShape}
 use Rattle.shape.proofs.SoundLaws.{shape_sound}
@@ -26,7 +27,6 @@ use Rattle.leaf.specs.Leaf.Laws.{leaf_good, leaf-bad}
 use Rattle.checker.specs.Check.{certificate_tests, walk_of, summary_of, tree_check, sections_check, check_of}
 use Rattle.checker.specs.Check.Laws.{refused_not_accepted, accepted_tests, accepted_shape, passes_laddered}
 use Rattle.checker.specs.declared.Summary.{Summary}
-use Rattle.checker.specs.declared.Checked.TheVariants.{Accepted, Refused}
 use Rattle.claims.proofs.OfDocket.Refusals.{refuse, refusal_is}
 use Rattle.claims.proofs.OfDocket.Handover.{refused_by_10}
 use Rattle.claims.specs.OfDocket.{Lowers, tree_in, assumed, Rules, Demand2}
@@ -43,7 +43,7 @@ tree_ends P H T j e = go (tree_at P H T 40 (fresh P) 0) refl
         (λ t. absurd (refused_not_next (rw (u, t, tree_answer) at e)))
 
 -- An accepted walk.
-walk-passes : (f g : Summary) (a : Walked) → tree_check f a ≡ Accepted g → (j : ℕ) × (a ≡ next j)
+walk-passes : (f g : Summary) (a : Walked) → tree_check f a ≡ Ok g → (j : ℕ) × (a ≡ next j)
 walk-passes f g (next j) e = (j, refl)
 walk-passes f g (refused n k) e = absurd (refused_not_accepted e)
 
@@ -89,15 +89,15 @@ module _ (b : List ℕ) (h : Header) where
     ),
   )
 
-  certificate : Rules b h → sections_check h.sizes x ≡ Accepted said
+  certificate : Rules b h → sections_check h.sizes x ≡ Ok said
   unfolding sections_check
   certificate k = passes-judge refuse _ _ (passes k) ∙ ap (tree_check said) (walked k.tree)
 
-  accepted : Rules b h → check_of b ≡ Accepted said
+  accepted : Rules b h → check_of b ≡ Ok said
   unfolding check_of
-  accepted k = ap (by_shape Refused (λ k. sections_check k.sizes (sections_of b k))) (shape_sound b h k.shape) ∙ certificate k
+  accepted k = ap (by_shape Err (λ k. sections_check k.sizes (sections_of b k))) (shape_sound b h k.shape) ∙ certificate k
 
-  kept : (f : Summary) → SoundShape b h → sections_check h.sizes x ≡ Accepted f → Rules b h
+  kept : (f : Summary) → SoundShape b h → sections_check h.sizes x ≡ Ok f → Rules b h
   unfolding sections_check handover
   kept f sound e =
       let ts = certificate_tests h.sizes x in
@@ -127,7 +127,7 @@ module _ (b : List ℕ) (h : Header) where
   }
 
 module _ (b : List ℕ) where
-  kept_of : (f : Summary) → check_of b ≡ Accepted f → (h : Header) × Rules b h
+  kept_of : (f : Summary) → check_of b ≡ Ok f → (h : Header) × Rules b h
   kept_of f e = let s = accepted_shape b f e in (s.0, kept b s.0 f s.1 s.2)
 
   pub demand_2 : Demand2 b
@@ -142,3 +142,14 @@ module _ (b : List ℕ) where
     certified = certified b;
     laddered = laddered b;
   }
+
+-- What is known of the header of an accepted docket.
+module _ (b : List ℕ) (a : Result Summary Refusal) (e : a ≡ check_of b) (f : Summary) (u : a ≡ Ok f) (h : Header) (q : h ≡ header_of b) where
+  pub accepted_sound : SoundShape b h
+  accepted_sound = let s = accepted_shape b f (sym e ∙ u) in subst (SoundShape b) (s.1.header ∙ sym q) s.1
+
+  pub accepted_laddered : Laddered (protocol_in b h) (layers_in b h) (weight_in b h)
+  accepted_laddered =
+      let s = accepted_shape b f (sym e ∙ u) in
+      subst (λ k. Laddered (protocol_in b k) (layers_in b k) (weight_in b k)) (s.1.header ∙ sym q)
+      (passes_laddered b s.0 s.1 (accepted_tests s.0.sizes (sections_of b s.0) f s.2))

@@ -1,5 +1,6 @@
 -- A docket that is refused by 10 points at the lowest rule at which some group breaks the handover. Assumes nothing.
-use Rattle.std.specs.Prelude.{◌≡◌, refl, true, List, [], ◌∷◌, ℕ, ◌<◌}
+use Rattle.refusals.specs.Refusal.{Refusal}
+use Rattle.std.specs.Prelude.{◌≡◌, refl, true, List, [], ◌∷◌, ℕ, ◌<◌, Result, Ok, Err}
 use Rattle.std.proofs.Common.{sym, ap, ◌∙◌, subst, true≢false, ⊎_elim, arith}
 use Rattle.std.proofs.lemmas.Bool.{not-true, not-false}
 use Rattle.theory.proofs.Judge.Laws.{refused_by, fits-here, fits_past, fits_other}
@@ -12,10 +13,7 @@ use Rattle.format.specs.declared.Header.{Header}
 use Rattle.shape.specs.Shape.{by_shape, shape_of}
 use Rattle.shape.specs.Sound.{SoundShape}
 use Rattle.shape.proofs.SoundLaws.{sound_shape}
-use Rattle.shape.specs.declared.Shape as shapes
-use Rattle.shape.specs.declared.Shape.TheVariants as shape
 use Rattle.checker.specs.Check.{walk_of, summary_of, tree_check, sections_check, check_of}
-use Rattle.checker.specs.declared.Checked.TheVariants.{Refused}
 use Rattle.claims.specs.OfDocket.{tree_in, assumed}
 use Rattle.claims.proofs.OfDocket.Refusals.{refuse, tells, walk_refused}
 use Rattle.claims.proofs.OfDocket.Numbers.{is_one_of, shape_numbers, shape_number, check_number, shape_number_lem}
@@ -46,7 +44,7 @@ pub refused_by_10 : (b : List ℕ) (s : ℕ) → check_of b ≡ refuse 10 s → 
 unfolding check_of is_one_of
 refused_by_10 b s e = go (shape_of b) refl (shape_number_lem b) e
   where
-    go : (a : shapes.Shape) → shape_of b ≡ a → is_one_of (shape_number a) shape_numbers ≡ true
-        → by_shape Refused (λ k. sections_check k.sizes (sections_of b k)) a ≡ refuse 10 s → Lowest b (header_of b) s
-    go (shape.Sound h) u p g = let sound = sound_shape b h u in subst (λ i. Lowest b i s) sound.header (certificate_10 b h s sound g)
-    go (shape.Refused r) u p g = absurd (true≢false (sym p ∙ ap (λ a. is_one_of (check_number a) shape_numbers) g))
+    go : (a : Result Header Refusal) → shape_of b ≡ a → is_one_of (shape_number a) shape_numbers ≡ true
+        → by_shape Err (λ k. sections_check k.sizes (sections_of b k)) a ≡ refuse 10 s → Lowest b (header_of b) s
+    go (Ok h) u p g = let sound = sound_shape b h u in subst (λ i. Lowest b i s) sound.header (certificate_10 b h s sound g)
+    go (Err r) u p g = absurd (true≢false (sym p ∙ ap (λ a. is_one_of (check_number a) shape_numbers) g))

@@ -1,5 +1,6 @@
 -- Demand 3 on the bytes of an accepted docket, from theory's theorems of its protocol. Assumes nothing.
-use Rattle.std.specs.Prelude.{◌≡◌, Bool, true, cond, ℕ}
+use Rattle.refusals.specs.Refusal.{refusal}
+use Rattle.std.specs.Prelude.{◌≡◌, Bool, true, cond, ℕ, Ok, Err, Some}
 use Rattle.std.proofs.Math.Path.{refl, ap, subst₃, fun_ext}
 use Rattle.std.proofs.Common.{sym, ◌∙◌}
 use mathlib.Core.List.{List, [], ◌∷◌}
@@ -12,12 +13,10 @@ use Rattle.theory.specs.Claims.{Reaches, Consensus, OneOutput, AllRefused, Calls
 use Rattle.theory.proofs.Claims.Proved.{theorems}
 use Rattle.format.specs.Format.{protocol_in, layers_in, weight_in}
 use Rattle.format.specs.declared.Header.{Header}
-use Rattle.shape.specs.Shape.{refusal, by_shape, shape_of}
+use Rattle.shape.specs.Shape.{by_shape, shape_of}
 use Rattle.shape.specs.Sound.{SoundShape}
-use Rattle.shape.specs.declared.Shape.TheVariants as shape
 use Rattle.machine.specs.Calls.{verdict_of, reply_of, counts_of}
 use Rattle.machine.specs.Code.Laws.{reply_sound, counts_sound}
-use Rattle.machine.specs.declared.Verdict.TheVariants as shown
 use Rattle.claims.specs.OfDocket.{pass_back, Rules, last_on, reported_on, CallsOn, Demand3}
 use Rattle.claims.proofs.OfDocket.Exact.{certified, laddered}
 use Rattle.claims.proofs.OfDocket.Says.{demand_1}
@@ -64,7 +63,7 @@ still-admitted b h sound c xs on =
 -- From a start, the verdict call says one verdict after all lists of calls that end at a standstill.
 one_verdict : (b : List ℕ) (h : Header) (sound : SoundShape b h) → Consensus (protocol_in b h) → (c : List ℕ) → Start (protocol_in b h) c
     → admitted (protocol_in b h) c ≡ true
-    → (v : Bool) × ((xs : List Call) → terminal (protocol_in b h) (last_on b c xs) ≡ true → verdict_of b (last_on b c xs) ≡ shown.Agreed v)
+    → (v : Bool) × ((xs : List Call) → terminal (protocol_in b h) (last_on b c xs) ≡ true → verdict_of b (last_on b c xs) ≡ Ok (Some v))
 one_verdict b h sound one c start on =
     let P = protocol_in b h in
     let L = layers_in b h in
@@ -95,7 +94,7 @@ demand_3 b h keeps c =
     }
 
 -- Calls on a docket that fails tests 1 to 8.
-module _ (b : List ℕ) (n k : ℕ) (fails : shape_of b ≡ shape.Refused (refusal n k)) where
+module _ (b : List ℕ) (n k : ℕ) (fails : shape_of b ≡ Err (refusal n k)) where
   fails_reply : (c : List ℕ) (x : Call) → reply_of b c x ≡ refused n k
   unfolding reply_of
   fails_reply c x = ap (by_shape (pass_back b c) (λ h. reply (protocol_in b h) (layers_in b h) c x)) fails

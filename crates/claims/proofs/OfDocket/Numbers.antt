@@ -1,6 +1,7 @@
 -- Which refusals a call can give, what a refusal of tests 1 to 8 means, and that a refused call changes nothing. Assumes
 -- nothing.
-use Rattle.std.specs.Prelude.{◌≡◌, Bool, false, cond, ◌||◌, ◌↔◌, ltb, eqb}
+use Rattle.refusals.specs.Refusal.{Refusal, refusal}
+use Rattle.std.specs.Prelude.{◌≡◌, Bool, false, cond, ◌||◌, ◌↔◌, ltb, eqb, Result, Ok, Err, Option, Some, None}
 use Rattle.std.proofs.Math.Path.{refl, ap}
 use Rattle.std.proofs.Common.{sym, ◌∙◌, true≢false, ⊎_elim, arith}
 use Rattle.std.proofs.Math.Bool.{true}
@@ -25,24 +26,11 @@ use Rattle.theory.specs.Machine.{step_reply, run_reply, reply, counts_after}
 use Rattle.theory.proofs.Machine.Laws.{adds_off, adds_on, reply_step, reply_run, step_refused}
 use Rattle.format.specs.Format.{header_of, sections_of, protocol_in, layers_in, tree_of, weights_of}
 use Rattle.format.specs.declared.Header.{Header}
-use Rattle.shape.specs.Shape.{refusal, shape_tests, header_shape, shape_of, by_shape}
-use Rattle.shape.specs.declared.Refusal.{Refusal}
-use Rattle.shape.specs.declared.Shape as shapes
-use Rattle.shape.specs.declared.Shape.TheVariants as shape
+use Rattle.shape.specs.Shape.{shape_tests, header_shape, shape_of, by_shape}
 use Rattle.checker.specs.Check.{certificate_tests, walk_of, summary_of, tree_check, sections_check, check_of}
 use Rattle.checker.specs.declared.Summary.{Summary}
-use Rattle.checker.specs.declared.Checked.{Checked}
-use Rattle.checker.specs.declared.Checked.TheVariants.{Accepted, Refused}
 use Rattle.machine.specs.Calls.{start_answer, pairs_answer, terminal_answer, verdict_as, verdict_answer}
 use Rattle.machine.specs.Calls.{start_of, pairs_of, terminal_of, verdict_of, reply_of, counts_of}
-use Rattle.machine.specs.declared.Started as starteds
-use Rattle.machine.specs.declared.Started.TheVariants as started
-use Rattle.machine.specs.declared.Pairs as paireds
-use Rattle.machine.specs.declared.Pairs.TheVariants as paired
-use Rattle.machine.specs.declared.YesNo as answers
-use Rattle.machine.specs.declared.YesNo.TheVariants as answer
-use Rattle.machine.specs.declared.Verdict as verdicts
-use Rattle.machine.specs.declared.Verdict.TheVariants as shown
 use Rattle.claims.specs.OfDocket.{pass_back}
 
 unfoldable pub is_one_of : ℕ → List ℕ → Bool
@@ -60,34 +48,34 @@ abbrev pub call_numbers : List ℕ
 call_numbers = shape_numbers ++ 20 ∷ 21 ∷ []
 
 -- The number of a refusal. An answer that is no refusal counts as 1 here, so that the laws below speak of every answer.
-abbrev pub shape_number : shapes.Shape → ℕ
-shape_number (shape.Sound h) = 1
-shape_number (shape.Refused r) = r.number
+abbrev pub shape_number : Result Header Refusal → ℕ
+shape_number (Ok h) = 1
+shape_number (Err r) = r.number
 
 abbrev pub walk_number : Walked → ℕ
 walk_number (next j) = 12
 walk_number (theory.refused n k) = n
 
-abbrev pub check_number : Checked → ℕ
-check_number (Accepted f) = 1
-check_number (Refused r) = r.number
+abbrev pub check_number : Result Summary Refusal → ℕ
+check_number (Ok f) = 1
+check_number (Err r) = r.number
 
-abbrev pub start_number : starteds.Started → ℕ
-start_number started.Start = 1
-start_number (started.Refused r) = r.number
+abbrev pub start_number : Result (Unit {0}) Refusal → ℕ
+start_number (Ok t) = 1
+start_number (Err r) = r.number
 
-abbrev pub pairs_number : paireds.Pairs → ℕ
-pairs_number (paired.Number n) = 1
-pairs_number (paired.Refused r) = r.number
+abbrev pub pairs_number : Result ℕ Refusal → ℕ
+pairs_number (Ok n) = 1
+pairs_number (Err r) = r.number
 
-abbrev pub answer_number : answers.YesNo → ℕ
-answer_number (answer.Is t) = 1
-answer_number (answer.Refused r) = r.number
+abbrev pub answer_number : Result Bool Refusal → ℕ
+answer_number (Ok t) = 1
+answer_number (Err r) = r.number
 
-abbrev pub verdict_number : verdicts.Verdict → ℕ
-verdict_number (shown.Agreed v) = 1
-verdict_number shown.Mixed = 1
-verdict_number (shown.Refused r) = r.number
+abbrev pub verdict_number : Result (Option Bool) Refusal → ℕ
+verdict_number (Ok (Some v)) = 1
+verdict_number (Ok None) = 1
+verdict_number (Err r) = r.number
 
 abbrev pub reply_number : Reply → ℕ
 reply_number stepped = 1
@@ -118,20 +106,20 @@ judge-number number refuse pass ns is p (t ∷ ts) all =
 pub shape_number_lem : (b : List ℕ) → is_one_of (shape_number (shape_of b)) shape_numbers ≡ true
 unfolding shape_of header_shape is_one_of
 shape_number_lem b =
-    judge-number shape_number (λ n k. shape.Refused (refusal n k)) (shape.Sound (header_of b)) shape_numbers (λ n k. refl) refl
+    judge-number shape_number (λ n k. Err (refusal n k)) (Ok (header_of b)) shape_numbers (λ n k. refl) refl
     (shape_tests b (header_of b)) (refl, (refl, (refl, (refl, (refl, (refl, (refl, (refl, (refl, tt)))))))))
 
 -- A refusal of tests 1 to 8 is the first of them that fits.
-place_in : shapes.Shape → ℕ
-place_in (shape.Sound h) = 0
-place_in (shape.Refused r) = r.place
+place_in : Result Header Refusal → ℕ
+place_in (Ok h) = 0
+place_in (Err r) = r.place
 
-pub shape_refusal_is : (b : List ℕ) (n k : ℕ) → (shape_of b ≡ shape.Refused (refusal n k)) ↔ FirstFits (shape_tests b (header_of b)) n k
+pub shape_refusal_is : (b : List ℕ) (n k : ℕ) → (shape_of b ≡ Err (refusal n k)) ↔ FirstFits (shape_tests b (header_of b)) n k
 unfolding shape_of header_shape place_in
 shape_refusal_is b n k =
-    let refuse : ℕ → ℕ → shapes.Shape = λ n k. shape.Refused (refusal n k) in
+    let refuse : ℕ → ℕ → Result Header Refusal = λ n k. Err (refusal n k) in
     let ts = shape_tests b (header_of b) in
-    let sound = shape.Sound (header_of b) in (
+    let sound = Ok (header_of b) in (
       λ e.
           ⊎_elim (λ f. f) (λ p. absurd (let z : ◌≡◌ {A = ℕ} 0 1 = cc p.1 in omega arith))
           (refused_by refuse sound (λ n k m j q. (ap shape_number q, ap place_in q)) ts n k e),
@@ -149,7 +137,7 @@ either number false x y ns p q = q
 module _ (b c : List ℕ) where
   -- A call makes tests 1 to 8, then those of the counts, then answers f.
   module _ {A : Type 0} (number : A → ℕ) (refuse : Refusal → A) (f : Header → A) (ns : List ℕ) where
-    abbrev answer_by : shapes.Shape → A
+    abbrev answer_by : Result Header Refusal → A
     answer_by = by_shape refuse (λ h. admit (protocol_in b h) c (λ n. refuse (refusal n 0)) (f h))
 
     abbrev OneOf : A → Type 0
@@ -162,41 +150,41 @@ module _ (b c : List ℕ) where
         to : (r : Refusal) → is_one_of r.number (call_numbers ++ ns) ≡ true → OneOf (refuse r)
         to r p = ap (λ i. is_one_of i (call_numbers ++ ns)) (is r) ∙ p
 
-        go : (s : shapes.Shape) → is_one_of (shape_number s) shape_numbers ≡ true → OneOf (answer_by s)
-        go (shape.Sound h) p =
+        go : (s : Result Header Refusal) → is_one_of (shape_number s) shape_numbers ≡ true → OneOf (answer_by s)
+        go (Ok h) p =
             either number (is_sized (protocol_in b h) c) _ (refuse (refusal 20 0)) (call_numbers ++ ns)
             (either number (is_within c) (f h) (refuse (refusal 21 0)) (call_numbers ++ ns) (all h) (to (refusal 21 0) refl))
             (to (refusal 20 0) refl)
-        go (shape.Refused r) p = to r (front r.number shape_numbers (20 ∷ 21 ∷ ns) p)
+        go (Err r) p = to r (front r.number shape_numbers (20 ∷ 21 ∷ ns) p)
 
   pub start_number_lem : is_one_of (start_number (start_of b c)) (call_numbers ++ 22 ∷ []) ≡ true
   unfolding start_of start_answer is_one_of
   start_number_lem =
-      call_number start_number started.Refused _ (22 ∷ []) (λ r. refl)
+      call_number start_number Err _ (22 ∷ []) (λ r. refl)
       (λ h.
       let P = protocol_in b h in
-      either start_number (ltb (start_test P c) P.states) (started.Refused (refusal 22 (start_test P c))) started.Start (call_numbers ++ 22 ∷ []) refl refl)
+      either start_number (ltb (start_test P c) P.states) (Err (refusal 22 (start_test P c))) (Ok tt) (call_numbers ++ 22 ∷ []) refl refl)
 
   pub pairs-number : (r : ℕ) → is_one_of (pairs_number (pairs_of b c r)) (call_numbers ++ 23 ∷ []) ≡ true
   unfolding pairs_of pairs_answer is_one_of
   pairs-number r =
-      call_number pairs_number paired.Refused _ (23 ∷ []) (λ r. refl)
+      call_number pairs_number Err _ (23 ∷ []) (λ r. refl)
       (λ h.
       let P = protocol_in b h in
-      either pairs_number (ltb r P.rules) (paired.Number (pairs P c r)) (paired.Refused (refusal 23 r)) (call_numbers ++ 23 ∷ []) refl refl)
+      either pairs_number (ltb r P.rules) (Ok (pairs P c r)) (Err (refusal 23 r)) (call_numbers ++ 23 ∷ []) refl refl)
 
   pub terminal-number : is_one_of (answer_number (terminal_of b c)) call_numbers ≡ true
   unfolding terminal_of terminal_answer is_one_of
-  terminal-number = call_number answer_number answer.Refused (λ h. answer.Is (terminal (protocol_in b h) c)) [] (λ r. refl) (λ h. refl)
+  terminal-number = call_number answer_number Err (λ h. Ok (terminal (protocol_in b h) c)) [] (λ r. refl) (λ h. refl)
 
-  shown_number : (v : protocol.Output) → verdict_number (verdict_as v) ≡ 1
+  shown_number : (v : protocol.Output) → verdict_number (Ok (verdict_as v)) ≡ 1
   shown_number (protocol.agreed v) = refl
   shown_number protocol.mixed = refl
 
   pub verdict_number_lem : is_one_of (verdict_number (verdict_of b c)) call_numbers ≡ true
   unfolding verdict_of verdict_answer is_one_of
   verdict_number_lem =
-      call_number verdict_number shown.Refused (λ h. verdict_as (output_of (protocol_in b h) c)) [] (λ r. refl)
+      call_number verdict_number Err (λ h. Ok (verdict_as (output_of (protocol_in b h) c))) [] (λ r. refl)
       (λ h. ap (λ n. is_one_of n call_numbers) (shown_number (output_of (protocol_in b h) c)))
 
   pub step_number : (r : ℕ) → is_one_of (reply_number (reply_of b c (step r))) (call_numbers ++ 23 ∷ 24 ∷ []) ≡ true
@@ -259,7 +247,7 @@ unfolding sections_check is_one_of
 sections-number b h =
     let x = sections_of b h in
     let P = protocol_in b h in
-    judge-number check_number (λ n k. Refused (refusal n k)) _ check_numbers (λ n k. refl)
+    judge-number check_number (λ n k. Err (refusal n k)) _ check_numbers (λ n k. refl)
     (tree-check (summary_of h.sizes x) (walk_of h.sizes x)
     (tree-number check_numbers refl refl P (disagreement P (weights_of h.sizes x.leaves)) (tree_of h.sizes x.nodes)))
     (certificate_tests h.sizes x) (refl, (refl, (refl, tt)))
@@ -268,10 +256,10 @@ pub check-number : (b : List ℕ) → is_one_of (check_number (check_of b)) chec
 unfolding check_of
 check-number b = go (shape_of b) (shape_number_lem b)
   where
-    go : (s : shapes.Shape) → is_one_of (shape_number s) shape_numbers ≡ true
-        → is_one_of (check_number (by_shape Refused (λ h. sections_check h.sizes (sections_of b h)) s)) check_numbers ≡ true
-    go (shape.Sound h) p = sections-number b h
-    go (shape.Refused r) p = front r.number shape_numbers (9 ∷ 10 ∷ 11 ∷ 12 ∷ 13 ∷ []) p
+    go : (s : Result Header Refusal) → is_one_of (shape_number s) shape_numbers ≡ true
+        → is_one_of (check_number (by_shape Err (λ h. sections_check h.sizes (sections_of b h)) s)) check_numbers ≡ true
+    go (Ok h) p = sections-number b h
+    go (Err r) p = front r.number shape_numbers (9 ∷ 10 ∷ 11 ∷ 12 ∷ 13 ∷ []) p
 
 -- ---- A refused step or run leaves the counts
 
@@ -293,7 +281,7 @@ pub unchanged : (b c : List ℕ) (x : Call) (n k : ℕ) → reply_of b c x ≡ r
 unfolding reply_of counts_of
 unchanged b c x n k e = go (shape_of b) e
   where
-    go : (s : shapes.Shape) → by_shape (pass_back b c) (λ h. reply (protocol_in b h) (layers_in b h) c x) s ≡ refused n k
+    go : (s : Result Header Refusal) → by_shape (pass_back b c) (λ h. reply (protocol_in b h) (layers_in b h) c x) s ≡ refused n k
         → by_shape (λ _. c) (λ h. counts_after (protocol_in b h) (layers_in b h) c x) s ≡ c
-    go (shape.Sound h) u = unchanged_on (protocol_in b h) (layers_in b h) c x n k u
-    go (shape.Refused r) u = refl
+    go (Ok h) u = unchanged_on (protocol_in b h) (layers_in b h) c x n k u
+    go (Err r) u = refl

@@ -1,5 +1,7 @@
 -- A refusal of the check is the first test that fits, at its lowest place. Assumes nothing.
-use Rattle.std.specs.Prelude.{◌≡◌, List, ◌↔◌, ◌⊎◌, ℕ}
+use Rattle.std.specs.Prelude.{Result}
+use Rattle.refusals.specs.Refusal.{Refusal, refusal}
+use Rattle.std.specs.Prelude.{◌≡◌, List, ◌↔◌, ◌⊎◌, ℕ, Ok, Err}
 use Rattle.std.proofs.Math.Path.{sym}
 use Rattle.std.proofs.Common.{ap, ◌∙◌, inl, inr, ⊎_elim}
 use Rattle.theory.specs.Judge.{judge, Passes, FirstFits}
@@ -8,26 +10,23 @@ use Rattle.theory.specs.Tree.{Walked, next, refused}
 use Rattle.theory.specs.Subtree.{TreeFails}
 use Rattle.theory.proofs.Claims.Proved.{theorems}
 use Rattle.format.specs.Format.{header_of, sections_of, protocol_in}
-use Rattle.shape.specs.Shape.{refusal, shape_tests, header_shape, shape_of, by_shape}
-use Rattle.shape.specs.declared.Shape.TheVariants as shape
+use Rattle.shape.specs.Shape.{shape_tests, header_shape, shape_of, by_shape}
 use Rattle.checker.specs.Check.{certificate_tests, walk_of, summary_of, tree_check, sections_check, check_of}
 use Rattle.checker.specs.Check.Laws.{refused_not_accepted}
 use Rattle.checker.specs.declared.Summary.{Summary}
-use Rattle.checker.specs.declared.Checked.{Checked}
-use Rattle.checker.specs.declared.Checked.TheVariants.{Accepted, Refused}
 use Rattle.claims.specs.OfDocket.{tree_in, assumed, tests_in}
 
 -- The check's refusal by number n at place k.
-abbrev pub refuse : ℕ → ℕ → Checked
-refuse n k = Refused (refusal n k)
+abbrev pub refuse : ℕ → ℕ → Result Summary Refusal
+refuse n k = Err (refusal n k)
 
-abbrev number_in : Checked → ℕ
-number_in (Accepted f) = 0
-number_in (Refused r) = r.number
+abbrev number_in : Result Summary Refusal → ℕ
+number_in (Ok f) = 0
+number_in (Err r) = r.number
 
-abbrev place_in : Checked → ℕ
-place_in (Accepted f) = 0
-place_in (Refused r) = r.place
+abbrev place_in : Result Summary Refusal → ℕ
+place_in (Ok f) = 0
+place_in (Err r) = r.place
 
 pub tells : (n k m j : ℕ) → refuse n k ≡ refuse m j → (n ≡ m) × (k ≡ j)
 tells n k m j e = (ap number_in e, ap place_in e)
@@ -38,7 +37,7 @@ walk_refused f (refused m i) n k e = let s = tells m i n k e in ap (λ x. refuse
 
 module _ (b : List ℕ) where
   -- What follows tests 1 to 11.
-  abbrev end : Checked
+  abbrev end : Result Summary Refusal
   end = let h = header_of b in let x = sections_of b h in tree_check (summary_of h.sizes x) (walk_of h.sizes x)
 
   -- The check is one list of tests, and then the walk.
@@ -46,7 +45,7 @@ module _ (b : List ℕ) where
   unfolding check_of shape_of header_shape sections_check
   check_judges =
       let h = header_of b in
-      judge_map (by_shape Refused (λ k. sections_check k.sizes (sections_of b k))) (λ n k. shape.Refused (refusal n k)) (shape.Sound h) (shape_tests b h)
+      judge_map (by_shape Err (λ k. sections_check k.sizes (sections_of b k))) (λ n k. Err (refusal n k)) (Ok h) (shape_tests b h)
       ∙ sym (judge-append refuse end (shape_tests b h) (certificate_tests h.sizes (sections_of b h)))
 
   pub refusal_is : (n k : ℕ) → let h = header_of b in

@@ -1,6 +1,7 @@
 -- What every machine call says. Assumes nothing.
+use Rattle.refusals.specs.Refusal.{Refusal, refusal}
 use Rattle.std.proofs.Math.Path.{◌≡◌, ap}
-use Rattle.std.specs.Prelude.{refl, Bool, false, cond, List, ◌↔◌, ℕ, ◌≤◌, ◌<◌, leb, ltb}
+use Rattle.std.specs.Prelude.{refl, Bool, false, cond, List, ◌↔◌, ℕ, ◌≤◌, ◌<◌, leb, ltb, Result, Ok, Err, Option, Some, None}
 use Rattle.std.proofs.Common.{sym, ◌∙◌, arith}
 use Rattle.std.proofs.Math.Bool.{true}
 use borrow.Author.Tests.{ltb-true, ltb-false, lt-ltb, le-ltb, leb-true}
@@ -14,19 +15,11 @@ use Rattle.theory.proofs.Machine.Laws.{admitted_sized, step_fires, step_no_rule,
 use Rattle.theory.proofs.Claims.Proved.{theorems}
 use Rattle.format.specs.Format.{protocol_in, layers_in}
 use Rattle.format.specs.declared.Header.{Header}
-use Rattle.shape.specs.Shape.{refusal, shape_of, by_shape}
+use Rattle.shape.specs.Shape.{shape_of, by_shape}
 use Rattle.shape.specs.Sound.{SoundShape}
 use Rattle.shape.proofs.SoundLaws.{sound_shape, shape_sound}
-use Rattle.shape.specs.declared.Refusal.{Refusal}
-use Rattle.shape.specs.declared.Shape as shapes
 use Rattle.machine.specs.Calls.{start_answer, pairs_answer, terminal_answer, verdict_as, verdict_answer}
 use Rattle.machine.specs.Calls.{start_of, pairs_of, terminal_of, verdict_of, reply_of}
-use Rattle.machine.specs.declared.Started as starteds
-use Rattle.machine.specs.declared.Started.TheVariants as started
-use Rattle.machine.specs.declared.Pairs.TheVariants as paired
-use Rattle.machine.specs.declared.YesNo.TheVariants as answer
-use Rattle.machine.specs.declared.Verdict as verdicts
-use Rattle.machine.specs.declared.Verdict.TheVariants as shown
 use Rattle.claims.specs.OfDocket.{CallSays, LowestUnfit, pass_back, Demand1}
 use Rattle.claims.proofs.OfDocket.Numbers.{shape_refusal_is, unchanged}
 
@@ -35,7 +28,7 @@ use Rattle.claims.proofs.OfDocket.Numbers.{shape_refusal_is, unchanged}
 -- The call's answer a is f of the header, behind tests 1 to 8 and the tests of the counts.
 module _ (b c : List ℕ) {A : Type 0} (a : A) (refuse : Refusal → A) (f : Header → A)
     (is : a ≡ by_shape refuse (λ h. admit (protocol_in b h) c (λ n. refuse (refusal n 0)) (f h)) (shape_of b)) where
-  abbrev answer_by : shapes.Shape → A
+  abbrev answer_by : Result Header Refusal → A
   answer_by = by_shape refuse (λ h. admit (protocol_in b h) c (λ n. refuse (refusal n 0)) (f h))
 
   on_sound : (h : Header) → SoundShape b h → a ≡ admit (protocol_in b h) c (λ n. refuse (refusal n 0)) (f h)
@@ -57,13 +50,13 @@ module _ (b c : List ℕ) {A : Type 0} (a : A) (refuse : Refusal → A) (f : Hea
 
 -- ---- The start test
 
-abbrev number_in : starteds.Started → ℕ
-number_in started.Start = 0
-number_in (started.Refused r) = r.number
+abbrev number_in : Result (Unit {0}) Refusal → ℕ
+number_in (Ok t) = 0
+number_in (Err r) = r.number
 
-abbrev place_in : starteds.Started → ℕ
-place_in started.Start = 0
-place_in (started.Refused r) = r.place
+abbrev place_in : Result (Unit {0}) Refusal → ℕ
+place_in (Ok t) = 0
+place_in (Err r) = r.place
 
 -- Counts that pass have two agents to a million.
 pub admitted-within : (P : Protocol) (c : List ℕ) → admitted P c ≡ true → (2 ≤ size c) × (size c ≤ 1000000)
@@ -91,14 +84,14 @@ module _ (b c : List ℕ) (P : Protocol) (on : admitted P c ≡ true) where
       (λ t l. (fit_rule P c t).1 (u.lowest_state t l))
       (λ _. is_true _ (λ f. u.against ((fit_rule P c s).0 f)))
 
-  module _ (a : starteds.Started) (e : a ≡ cond (ltb (start_test P c) P.states) (started.Refused (refusal 22 (start_test P c))) started.Start) where
-    inside : start_test P c < P.states → a ≡ started.Refused (refusal 22 (start_test P c))
+  module _ (a : Result (Unit {0}) Refusal) (e : a ≡ cond (ltb (start_test P c) P.states) (Err (refusal 22 (start_test P c))) (Ok tt)) where
+    inside : start_test P c < P.states → a ≡ Err (refusal 22 (start_test P c))
     inside l = e ∙ rw (lt-ltb _ _ l)
 
-    outside : P.states ≤ start_test P c → a ≡ started.Start
+    outside : P.states ≤ start_test P c → a ≡ Ok tt
     outside l = e ∙ rw (le-ltb _ _ l)
 
-    start_is : (a ≡ started.Start) ↔ Start P c
+    start_is : (a ≡ Ok tt) ↔ Start P c
     unfolding start_test
     start_is =
         let t = (theorems P).start_exact c (admitted_sized P c on) (admitted-within P c on).0 in (
@@ -108,7 +101,7 @@ module _ (b c : List ℕ) (P : Protocol) (on : admitted P c ≡ true) where
           λ s. outside (omega (arith, t.1 s)),
         )
 
-    unfit_is : (s : ℕ) → (a ≡ started.Refused (refusal 22 s)) ↔ LowestUnfit b c P s
+    unfit_is : (s : ℕ) → (a ≡ Err (refusal 22 s)) ↔ LowestUnfit b c P s
     unfit_is s = (
       λ q. by_test (ltb (start_test P c) P.states)
           (λ l.
@@ -118,47 +111,50 @@ module _ (b c : List ℕ) (P : Protocol) (on : admitted P c ≡ true) where
           (λ l. absurd (let z : ◌≡◌ {A = ℕ} 0 22 = ap number_in (sym (outside (ltb-false _ _ l)) ∙ q) in omega arith)),
       λ u.
           let same = test_unfit s u in
-          inside (omega (arith, u.state)) ∙ ap (λ k. started.Refused (refusal 22 k)) same,
+          inside (omega (arith, u.state)) ∙ ap (λ k. Err (refusal 22 k)) same,
     )
 
 -- ---- The verdict
 
-abbrev code_in : verdicts.Verdict → ℕ
-code_in (shown.Agreed false) = 0
-code_in (shown.Agreed true) = 1
-code_in shown.Mixed = 2
-code_in (shown.Refused r) = 3
+abbrev code_in : Result (Option Bool) Refusal → ℕ
+code_in (Ok (Some false)) = 0
+code_in (Ok (Some true)) = 1
+code_in (Ok None) = 2
+code_in (Err r) = 3
 
-mixed_not_agreed : (v : Bool) → shown.Mixed ≡ shown.Agreed v → ⊥
+abbrev answered : Option Bool → Result (Option Bool) Refusal
+answered v = Ok v
+
+mixed_not_agreed : (v : Bool) → answered None ≡ answered (Some v) → ⊥
 mixed_not_agreed true q = let z : ◌≡◌ {A = ℕ} 2 1 = ap code_in q in omega arith
 mixed_not_agreed false q = let z : ◌≡◌ {A = ℕ} 2 0 = ap code_in q in omega arith
 
-module _ (P : Protocol) (good : WellFormed P) (c : List ℕ) (on : admitted P c ≡ true) (a : verdicts.Verdict) (e : a ≡ verdict_as (output_of P c)) where
+module _ (P : Protocol) (good : WellFormed P) (c : List ℕ) (on : admitted P c ≡ true) (a : Result (Option Bool) Refusal) (e : a ≡ Ok (verdict_as (output_of P c))) where
   shows_is : (v : Bool) → (output_of P c ≡ theory.agreed v) ↔ Shows P v c
   shows_is = ((theorems P).as_published good c (admitted_sized P c on)).output_is (omega (arith, (admitted-within P c on).0))
 
-  agreed_same : (v w : Bool) → shown.Agreed v ≡ shown.Agreed w → v ≡ w
+  agreed_same : (v w : Bool) → answered (Some v) ≡ answered (Some w) → v ≡ w
   agreed_same v w q = cc
 
-  agreed_is : (v : Bool) → (a ≡ shown.Agreed v) ↔ Shows P v c
+  agreed_is : (v : Bool) → (a ≡ Ok (Some v)) ↔ Shows P v c
   agreed_is v = (
     λ q. go (output_of P c) refl (sym e ∙ q),
-    λ s. e ∙ ap verdict_as ((shows_is v).1 s),
+    λ s. e ∙ ap (λ x. Ok (verdict_as x)) ((shows_is v).1 s),
   )
     where
-      go : (x : theory.Output) → output_of P c ≡ x → verdict_as (output_of P c) ≡ shown.Agreed v → Shows P v c
-      go (theory.agreed w) u q = (shows_is v).0 (u ∙ ap theory.agreed (agreed_same w v (sym (ap verdict_as u) ∙ q)))
-      go theory.mixed u q = absurd (mixed_not_agreed v (sym (ap verdict_as u) ∙ q))
+      go : (x : theory.Output) → output_of P c ≡ x → answered (verdict_as (output_of P c)) ≡ answered (Some v) → Shows P v c
+      go (theory.agreed w) u q = (shows_is v).0 (u ∙ ap theory.agreed (agreed_same w v (sym (ap (λ y. answered (verdict_as y)) u) ∙ q)))
+      go theory.mixed u q = absurd (mixed_not_agreed v (sym (ap (λ y. answered (verdict_as y)) u) ∙ q))
 
-  mixed_is : (a ≡ shown.Mixed) ↔ ((v : Bool) → Shows P v c → ⊥)
+  mixed_is : (a ≡ Ok None) ↔ ((v : Bool) → Shows P v c → ⊥)
   mixed_is = (
     λ q v s. mixed_not_agreed v (sym q ∙ (agreed_is v).1 s),
     λ none. go (output_of P c) refl none,
   )
     where
-      go : (x : theory.Output) → output_of P c ≡ x → ((v : Bool) → Shows P v c → ⊥) → a ≡ shown.Mixed
+      go : (x : theory.Output) → output_of P c ≡ x → ((v : Bool) → Shows P v c → ⊥) → a ≡ Ok None
       go (theory.agreed w) u none = absurd (none w ((shows_is w).0 u))
-      go theory.mixed u none = e ∙ ap verdict_as u
+      go theory.mixed u none = e ∙ ap (λ y. Ok (verdict_as y)) u
 
 -- ---- Demand 1
 
@@ -168,13 +164,13 @@ demand_1 b c = record {
   shape_sound_is = λ h. (sound_shape b h, shape_sound b h);
   shape_refusal_is = shape_refusal_is b;
   start =
-      call_says b c (start_of b c) started.Refused _ refl _
+      call_says b c (start_of b c) Err _ refl _
       (λ h sound on e. (start_is b c (protocol_in b h) on (start_of b c) e, unfit_is b c (protocol_in b h) on (start_of b c) e));
   can_act = λ r.
-      call_says b c (pairs_of b c r) paired.Refused _ refl _
+      call_says b c (pairs_of b c r) Err _ refl _
       (λ h sound on e. (λ l. e ∙ rw (lt-ltb r h.sizes.rules l), λ l. e ∙ rw (le-ltb r h.sizes.rules l)));
-  standstill = call_says b c (terminal_of b c) answer.Refused _ refl _ (λ h sound on e. e);
-  verdict = call_says b c (verdict_of b c) shown.Refused _ refl _
+  standstill = call_says b c (terminal_of b c) Err _ refl _ (λ h sound on e. e);
+  verdict = call_says b c (verdict_of b c) Err _ refl _
       (λ h sound on e.
       let P = protocol_in b h in
       let good = sound.sections.formed in

@@ -1,5 +1,6 @@
 -- The claims about the order of rules are proved. Assumes nothing.
-use Rattle.std.specs.Prelude.{◌≡◌, Bool, true, false, ◌↔◌, ◌⊎◌, eqb, length, get_or, take, drop}
+use Rattle.refusals.specs.Refusal.{refusal}
+use Rattle.std.specs.Prelude.{◌≡◌, Bool, true, false, ◌↔◌, ◌⊎◌, eqb, length, get_or, take, drop, Err}
 use Rattle.std.proofs.Math.Path.{refl, ap}
 use Rattle.std.proofs.Common.{sym, ◌∙◌, inl, inr, add-zero, arith, ext_get_or}
 use Rattle.std.proofs.Math.Bool.{not}
@@ -25,12 +26,10 @@ use Rattle.theory.proofs.Order.Laws.{less_elim, less_is, less_irreflexive, less_
 use Rattle.format.specs.Format.{header_of, sections_of, rule_of, rule_key, protocol_in, layers_in}
 use Rattle.format.specs.declared.Header.{Header}
 use Rattle.format.specs.declared.Rule.{Rule}
-use Rattle.shape.specs.Shape.{refusal, same_rule, not_after, repeats, out_of_order, shape_tests, shape_of, by_shape}
+use Rattle.shape.specs.Shape.{same_rule, not_after, repeats, out_of_order, shape_tests, shape_of, by_shape}
 use Rattle.shape.specs.Sound.{InOrder}
 use Rattle.shape.proofs.SoundLaws.{same_rule_lem, sound_lengths}
-use Rattle.shape.specs.declared.Shape.TheVariants.{Refused}
 use Rattle.checker.specs.Check.{certificate_tests, sections_check, check_of}
-use Rattle.checker.specs.declared.Checked.TheVariants as checked
 use Rattle.claims.specs.OfDocket.{tree_in, assumed}
 use Rattle.claims.proofs.OfDocket.Numbers.{shape_refusal_is}
 use Rattle.claims.proofs.OfDocket.Refusals.{refusal_is}
@@ -139,7 +138,7 @@ module _ (b : List ℕ) (k : ℕ) where
       let g = fits-here _ _ 14 k (fits_other _ 14 k w) p.1 in
       (p.0, g.1, g.2, g.3)
 
-  refuses_14 : Passes (earlier_tests b h) → k < h.sizes.rules → bad k ≡ true → Clear bad k → shape_of b ≡ Refused (refusal 14 k)
+  refuses_14 : Passes (earlier_tests b h) → k < h.sizes.rules → bad k ≡ true → Clear bad k → shape_of b ≡ Err (refusal 14 k)
   refuses_14 p l t clear =
       (shape_refusal_is b 14 k).1 (record {
         earlier = earlier_tests b h;
@@ -166,7 +165,7 @@ module _ (b : List ℕ) (k : ℕ) where
         first-not_after h.sizes.rules rules k s.1 t.1 (λ j l. is_false _ (λ e. not_both (and_intro _ _ t.0 e) (s.3 j l))),
       )
 
-  refusal_14 : (shape_of b ≡ Refused (refusal 14 k)) ↔ Said
+  refusal_14 : (shape_of b ≡ Err (refusal 14 k)) ↔ Said
   unfolding out_of_order
   refusal_14 = (
     λ r. says [] refl ((shape_refusal_is b 14 k).0 r),
@@ -179,7 +178,7 @@ module _ (b : List ℕ) (k : ℕ) where
         (λ j l. is_false _ (λ on. not_both (and_elim (eqb h.sizes.version 2) _ on).1 (clear_to h.sizes.rules rules e f j (omega arith)))),
   )
 
-  check_14 : (check_of b ≡ checked.Refused (refusal 14 k)) ↔ (shape_of b ≡ Refused (refusal 14 k))
+  check_14 : (check_of b ≡ Err (refusal 14 k)) ↔ (shape_of b ≡ Err (refusal 14 k))
   unfolding check_of
   check_14 = (
     λ e.
@@ -187,7 +186,7 @@ module _ (b : List ℕ) (k : ℕ) where
         (λ f. refusal_14.1 (says (certificate_tests h.sizes (sections_of b h)) refl f))
         (λ p. absurd (⊎_elim (λ q. omega arith) (λ q. omega arith) (number_12_13 (protocol_in b h) (assumed b h) (tree_in b h) 14 k p.1)))
         ((refusal_is b 14 k).0 e),
-    λ e. ap (by_shape checked.Refused (λ i. sections_check i.sizes (sections_of b i))) e,
+    λ e. ap (by_shape Err (λ i. sections_check i.sizes (sections_of b i))) e,
   )
 
 -- ---- A refusal by 7
@@ -212,7 +211,7 @@ module _ (b : List ℕ) (p : Passes (take 6 (shape_tests b (header_of b)))) (e r
   again-below : first_below count again < count
   again-below = omega (arith, first_min count again r again_there)
 
-  equal_is_7 : (k : ℕ) × (shape_of b ≡ Refused (refusal 7 k))
+  equal_is_7 : (k : ℕ) × (shape_of b ≡ Err (refusal 7 k))
   equal_is_7 = (
     first_below count again,
     (shape_refusal_is b 7 (first_below count again)).1 (record {

@@ -1,5 +1,7 @@
 -- The claims about pages are proved. Assumes nothing.
-use Rattle.std.specs.Prelude.{◌≡◌, Bool, false, not, ◌||◌, ◌↔◌, ℕ, suc, ◌+◌, ◌*◌, ◌/◌, ◌%◌, ◌≤◌, ◌<◌, eqb, get_or, drop}
+use Rattle.std.specs.Prelude.{Result}
+use Rattle.refusals.specs.Refusal.{Refusal, refusal}
+use Rattle.std.specs.Prelude.{◌≡◌, Bool, false, not, ◌||◌, ◌↔◌, ℕ, suc, ◌+◌, ◌*◌, ◌/◌, ◌%◌, ◌≤◌, ◌<◌, eqb, get_or, drop, Ok, Err}
 use Rattle.std.proofs.Math.Path.{refl, sym, ap, subst}
 use Rattle.std.proofs.Common.{◌∙◌, ⊎_elim, zero-mul, mul-pos, div-add-mod', mul-div_cancel, get_or-take, get_or-drop}
 use Rattle.std.proofs.Math.Bool.{true}
@@ -22,20 +24,16 @@ use Rattle.theory.proofs.Machine.Laws.{runs_layered}
 use Rattle.theory.specs.Claims.{Rests, RunMakes}
 use Rattle.format.specs.Format.{header_of, protocol_in, layers_in, weight_in}
 use Rattle.format.specs.declared.Header.{Header}
-use Rattle.shape.specs.Shape.{refusal, shape_tests, header_shape, shape_of, by_shape}
+use Rattle.shape.specs.Shape.{shape_tests, header_shape, shape_of, by_shape}
 use Rattle.shape.specs.Sound.{SoundShape}
 use Rattle.shape.proofs.SoundLaws.{sound_shape, shape_sound}
-use Rattle.shape.specs.declared.Refusal.{Refusal}
-use Rattle.shape.specs.declared.Shape.TheVariants as shape
 use Rattle.machine.specs.Calls.{verdict_of, reply_of, counts_of}
 use Rattle.machine.specs.Code.Laws.{counts_sound}
 use Rattle.page.specs.Page.{part_at, each_part, result_of, page_tests, page_of, unless_refused, counts_after_page, results_after_page}
 use Rattle.page.proofs.PageLaws.{part_within, part_length, each-length, part_of_each, parts-only}
 use Rattle.page.specs.Code.{run_counts}
 use Rattle.page.proofs.CodeLaws.{run_length, two_long}
-use Rattle.page.specs.declared.Paged.{Paged}
-use Rattle.page.specs.declared.Paged.TheVariants.{Done, Refused}
-use Rattle.codes.specs.Codes.{page_code}
+use Rattle.codes.specs.Codes.{answer_code}
 use Rattle.claims.specs.OfDocket.{IsAccepted, Demand3, last_on, reported_on}
 use Rattle.claims.proofs.OfDocket.Numbers.{is_one_of, shape_numbers, judge-number}
 use Rattle.claims.proofs.OfDocket.Codes.{not_zero, tests-place}
@@ -45,29 +43,29 @@ use Rattle.claims.proofs.OfDocket.Proved.{of_docket}
 use Rattle.claims.specs.OfPage.{groups_in, group_in, first, second, tests_of_page, AreGroups, PageAnswers, GroupRuns, PageRuns}
 use Rattle.claims.specs.OfPage.{after_pages, steps_on_pages, group_after, PagesAreRuns, PagesSettle, StartOutput, OfPage}
 
-abbrev refuse : ℕ → ℕ → Paged
-refuse n k = Refused (refusal n k)
+abbrev refuse : ℕ → ℕ → Result (Unit {0}) Refusal
+refuse n k = Err (refusal n k)
 
-abbrev number_in : Paged → ℕ
-number_in Done = 0
-number_in (Refused r) = r.number
+abbrev number_in : Result (Unit {0}) Refusal → ℕ
+number_in (Ok t) = 0
+number_in (Err r) = r.number
 
-abbrev place_in : Paged → ℕ
-place_in Done = 0
-place_in (Refused r) = r.place
+abbrev place_in : Result (Unit {0}) Refusal → ℕ
+place_in (Ok t) = 0
+place_in (Err r) = r.place
 
 -- The numbers of its refusals; of a call that is done any of them will do.
 abbrev page_numbers : List ℕ
 page_numbers = shape_numbers ++ 32 ∷ 33 ∷ []
 
-abbrev number_or32 : Paged → ℕ
-number_or32 Done = 32
-number_or32 (Refused r) = r.number
+abbrev number_or32 : Result (Unit {0}) Refusal → ℕ
+number_or32 (Ok t) = 32
+number_or32 (Err r) = r.number
 
 tells : (n k m j : ℕ) → refuse n k ≡ refuse m j → (n ≡ m) × (k ≡ j)
 tells n k m j e = (ap number_in e, ap place_in e)
 
-refused_not_done : {q : Refusal} → Refused q ≡ Done → ⊥
+refused_not_done : {q : Refusal} → ◌≡◌ {A = Result (Unit {0}) Refusal} (Err q) (Ok tt) → ⊥
 refused_not_done {q} e = let z : ◌≡◌ {A = ℕ} 0 1 = cc in omega arith
 
 -- ---- What the call answers
@@ -77,28 +75,28 @@ module _ (b c r : List ℕ) where
   tests = tests_of_page b c r
 
   -- The answer is one list of tests.
-  judged : page_of b c r ≡ judge refuse Done tests
+  judged : page_of b c r ≡ judge refuse (Ok tt) tests
   unfolding page_of shape_of header_shape
   judged =
       let h = header_of b in
       let own : Header → List Test = λ k. page_tests k.sizes.states (length c) (length r) in
-      judge_map (by_shape Refused (λ k. judge refuse Done (own k))) (λ n k. shape.Refused (refusal n k)) (shape.Sound h) (shape_tests b h)
-      ∙ sym (judge-append refuse Done (shape_tests b h) (own h))
+      judge_map (by_shape Err (λ k. judge refuse (Ok tt) (own k))) (λ n k. Err (refusal n k)) (Ok h) (shape_tests b h)
+      ∙ sym (judge-append refuse (Ok tt) (shape_tests b h) (own h))
 
-  done_is : (page_of b c r ≡ Done) ↔ Passes tests
+  done_is : (page_of b c r ≡ Ok tt) ↔ Passes tests
   done_is = (
-    λ e. judge-passes refuse Done Done (λ n k. refused_not_done) tests (sym judged ∙ e),
-    λ p. judged ∙ passes-judge refuse Done tests p,
+    λ e. judge-passes refuse (Ok tt) (Ok tt) (λ n k. refused_not_done) tests (sym judged ∙ e),
+    λ p. judged ∙ passes-judge refuse (Ok tt) tests p,
   )
 
   refusal_is : (n k : ℕ) → (page_of b c r ≡ refuse n k) ↔ FirstFits tests n k
   refusal_is n k = (
-    λ e. ⊎_elim (λ f. f) (λ p. absurd (refused_not_done (sym p.1))) (refused_by refuse Done tells tests n k (sym judged ∙ e)),
-    λ f. judged ∙ fits_refuses refuse Done tests n k f,
+    λ e. ⊎_elim (λ f. f) (λ p. absurd (refused_not_done (sym p.1))) (refused_by refuse (Ok tt) tells tests n k (sym judged ∙ e)),
+    λ f. judged ∙ fits_refuses refuse (Ok tt) tests n k f,
   )
 
   -- A docket on which the call is done passes tests 1 to 8.
-  done_sound : page_of b c r ≡ Done → SoundShape b (header_of b)
+  done_sound : page_of b c r ≡ Ok tt → SoundShape b (header_of b)
   unfolding shape_of header_shape
   done_sound e =
       let h = header_of b in
@@ -119,22 +117,22 @@ module _ (b c r : List ℕ) where
     some : 0 < S
     some = omega (arith, sound.limits.states_least)
 
-    by_tests : page_of b c r ≡ judge refuse Done (page_tests S (length c) (length r))
+    by_tests : page_of b c r ≡ judge refuse (Ok tt) (page_tests S (length c) (length r))
     unfolding page_of
-    by_tests = ap (by_shape Refused (λ k. judge refuse Done (page_tests k.sizes.states (length c) (length r)))) (shape_sound b h sound)
+    by_tests = ap (by_shape Err (λ k. judge refuse (Ok tt) (page_tests k.sizes.states (length c) (length r)))) (shape_sound b h sound)
 
     is_32 : not_groups ≡ true → page_of b c r ≡ refuse 32 0
-    is_32 e = by_tests ∙ sym (only_hit refuse Done (refuse 32 0) 32 not_groups true _ (sym e) refl refl)
+    is_32 e = by_tests ∙ sym (only_hit refuse (Ok tt) (refuse 32 0) 32 not_groups true _ (sym e) refl refl)
 
     is_33 : not_groups ≡ false → not_two_each ≡ true → page_of b c r ≡ refuse 33 0
     is_33 e d =
-        by_tests ∙ sym (only_pass refuse Done (refuse 33 0) 32 not_groups false _ (sym e) refl
-        (only_hit refuse Done (refuse 33 0) 33 not_two_each true [] (sym d) refl refl))
+        by_tests ∙ sym (only_pass refuse (Ok tt) (refuse 33 0) 32 not_groups false _ (sym e) refl
+        (only_hit refuse (Ok tt) (refuse 33 0) 33 not_two_each true [] (sym d) refl refl))
 
-    is_done : not_groups ≡ false → not_two_each ≡ false → page_of b c r ≡ Done
+    is_done : not_groups ≡ false → not_two_each ≡ false → page_of b c r ≡ Ok tt
     is_done e d =
-        by_tests ∙ sym (only_pass refuse Done Done 32 not_groups false _ (sym e) refl
-        (only_pass refuse Done Done 33 not_two_each false [] (sym d) refl (judge_done refuse Done Done refl)))
+        by_tests ∙ sym (only_pass refuse (Ok tt) (Ok tt) 32 not_groups false _ (sym e) refl
+        (only_pass refuse (Ok tt) (Ok tt) 33 not_two_each false [] (sym d) refl (judge_done refuse (Ok tt) (Ok tt) refl)))
 
     -- The counts are a whole number of groups, one at least, just where test 32 passes.
     whole_groups : not_groups ≡ false → AreGroups h c (length c / S)
@@ -186,7 +184,7 @@ module _ (b c r : List ℕ) where
       λ t. is_33 (groups_whole t.0 t.1).0 (is_true _ (λ e. t.2 ((two-each t.0 t.1).0 e))),
     )
 
-    done_words : (page_of b c r ≡ Done) ↔ ((g : ℕ) × AreGroups h c g × (length r ≡ 2 * g))
+    done_words : (page_of b c r ≡ Ok tt) ↔ ((g : ℕ) × AreGroups h c g × (length r ≡ 2 * g))
     done_words = (
       λ e.
           by_test not_groups
@@ -202,25 +200,25 @@ module _ (b c r : List ℕ) where
   unfolding is_one_of
   one_of =
       ap (λ a. is_one_of (number_or32 a) page_numbers) judged
-      ∙ judge-number number_or32 refuse Done page_numbers (λ n k. refl) refl tests
+      ∙ judge-number number_or32 refuse (Ok tt) page_numbers (λ n k. refl) refl tests
       (refl, (refl, (refl, (refl, (refl, (refl, (refl, (refl, (refl, (refl, (refl, tt)))))))))))
 
-  code_zero : (a : Paged) → is_one_of (number_or32 a) page_numbers ≡ true → page_code a ≡ 0 → a ≡ Done
+  code_zero : (a : Result (Unit {0}) Refusal) → is_one_of (number_or32 a) page_numbers ≡ true → answer_code a ≡ 0 → a ≡ Ok tt
   unfolding is_one_of
-  code_zero Done p z = refl
-  code_zero (Refused q) p z = absurd (not_zero q.number page_numbers p refl (omega arith))
+  code_zero (Ok t) p z = refl
+  code_zero (Err q) p z = absurd (not_zero q.number page_numbers p refl (omega arith))
 
   page_answers : PageAnswers b c r
   unfolding counts_after_page results_after_page page_of
   page_answers = record {
     done_is = done_is;
     refusal_is = refusal_is;
-    passed_back = λ q e. ap (by_shape Refused _) e;
+    passed_back = λ q e. ap (by_shape Err _) e;
     refusal_32 = refusal_32;
     refusal_33 = refusal_33;
     done_in_words = done_words;
     unchanged = λ q limit e. (ap (unless_refused c _) e, ap (unless_refused r _) e);
-    code = (λ z. code_zero (page_of b c r) one_of z, λ e. ap page_code e);
+    code = (λ z. code_zero (page_of b c r) one_of z, λ e. ap answer_code e);
     place = λ n k e. tests-place b _ (λ _. (omega arith, (omega arith, tt))) n k ((refusal_is n k).0 e);
   }
 
@@ -231,7 +229,7 @@ by_lengths b c c' r r' e d = rw (e, d)
 
 old_results : (b c r r' : List ℕ) (limit : ℕ) → length r' ≡ length r
     → (page_of b c r' ≡ page_of b c r) × (counts_after_page b c limit r' ≡ counts_after_page b c limit r)
-    × (page_of b c r ≡ Done → results_after_page b c limit r' ≡ results_after_page b c limit r)
+    × (page_of b c r ≡ Ok tt → results_after_page b c limit r' ≡ results_after_page b c limit r)
 unfolding counts_after_page results_after_page
 old_results b c r r' limit e =
     let same = by_lengths b c c r r' refl e in
@@ -248,7 +246,7 @@ odd : (n : ℕ) (t : Bool) → eqb ((2 * n + bit t) % 2) 1 ≡ t
 odd n true = eq-eqb ((2 * n + 1) % 2) 1 (omega arith)
 odd n false = ne_eqb ((2 * n + 0) % 2) 1 (λ e. omega arith)
 
-module _ (b : List ℕ) (h : Header) (sound : SoundShape b h) (c : List ℕ) (limit : ℕ) (r : List ℕ) (is : page_of b c r ≡ Done) where
+module _ (b : List ℕ) (h : Header) (sound : SoundShape b h) (c : List ℕ) (limit : ℕ) (r : List ℕ) (is : page_of b c r ≡ Ok tt) where
   abbrev n : ℕ
   n = h.sizes.states
 
@@ -415,7 +413,7 @@ module _ (b : List ℕ) (h : Header) (sound : SoundShape b h) (c : List ℕ) (li
   }
 
   -- The call is done again on what it left, and there are as many groups.
-  again : page_of b new d ≡ Done
+  again : page_of b new d ≡ Ok tt
   again = by_lengths b c _ r _ counts_length results_length ∙ is
 
   groups_stay : (g : ℕ) → g < groups_in h c → g < groups_in h new
@@ -424,7 +422,7 @@ module _ (b : List ℕ) (h : Header) (sound : SoundShape b h) (c : List ℕ) (li
 -- ---- Calls in a row
 
 module _ (b : List ℕ) (h : Header) (sound : SoundShape b h) (g : ℕ) where
-  pages_left : (limits c r : List ℕ) → page_of b c r ≡ Done → g < groups_in h c
+  pages_left : (limits c r : List ℕ) → page_of b c r ≡ Ok tt → g < groups_in h c
       → group_after b h c r g limits ≡ last_on b (group_in h c g) (map run limits)
   unfolding after_pages last_on
   pages_left [] c r is l = refl
@@ -432,7 +430,7 @@ module _ (b : List ℕ) (h : Header) (sound : SoundShape b h) (g : ℕ) where
       pages_left limits (counts_after_page b c limit r) (results_after_page b c limit r) (again b h sound c limit r is) (groups_stay b h sound c limit r is g l)
       ∙ ap (λ x. last_on b x (map run limits)) (left b h sound c limit r is g l)
 
-  pages_steps : (limits c r : List ℕ) → page_of b c r ≡ Done → g < groups_in h c
+  pages_steps : (limits c r : List ℕ) → page_of b c r ≡ Ok tt → g < groups_in h c
       → steps_on_pages b c r g limits ≡ reported_on b (group_in h c g) (map run limits)
   unfolding steps_on_pages reported_on
   pages_steps [] c r is l = refl
@@ -442,12 +440,12 @@ module _ (b : List ℕ) (h : Header) (sound : SoundShape b h) (g : ℕ) where
       ∙ ap (λ x. reported_on b x (map run limits)) (left b h sound c limit r is g l) in
       omega (arith, steps_are b h sound c limit r is g l, rest)
 
-  pages_run_lem : (c r : List ℕ) → page_of b c r ≡ Done → g < groups_in h c → PagesAreRuns b h c r g
+  pages_run_lem : (c r : List ℕ) → page_of b c r ≡ Ok tt → g < groups_in h c → PagesAreRuns b h c r g
   pages_run_lem c r is l = record { left = λ limits. pages_left limits c r is l; steps = λ limits. pages_steps limits c r is l }
 
 -- ---- Demand 3
 
-module _ (b : List ℕ) (accepted : IsAccepted b) (c r : List ℕ) (is : page_of b c r ≡ Done) (g : ℕ) (l : g < groups_in (header_of b) c) where
+module _ (b : List ℕ) (accepted : IsAccepted b) (c r : List ℕ) (is : page_of b c r ≡ Ok tt) (g : ℕ) (l : g < groups_in (header_of b) c) where
   abbrev h : Header
   h = header_of b
 

@@ -1,5 +1,7 @@
 -- The claims about the number of pairs are proved. Assumes nothing.
-use Rattle.std.specs.Prelude.{◌≡◌, Bool, false, ◌↔◌}
+use Rattle.refusals.specs.Refusal.{Refusal}
+use Rattle.std.specs.Prelude.{Result}
+use Rattle.std.specs.Prelude.{◌≡◌, Bool, false, ◌↔◌, Ok}
 use Rattle.std.proofs.Math.Path.{refl, ap}
 use Rattle.std.proofs.Common.{sym, ◌∙◌, arith, lt-ltb}
 use Rattle.std.proofs.Math.Bool.{true, not}
@@ -17,8 +19,6 @@ use Rattle.format.specs.Format.{protocol_in}
 use Rattle.format.specs.declared.Header.{Header}
 use Rattle.shape.specs.Sound.{SoundShape}
 use Rattle.machine.specs.Calls.{pairs_of, terminal_of, reply_of, counts_of}
-use Rattle.machine.specs.declared.Pairs.TheVariants.{Number}
-use Rattle.machine.specs.declared.YesNo.TheVariants.{Is}
 use Rattle.claims.specs.OfDocket.{Demand1, last_on}
 use Rattle.claims.proofs.OfDocket.Numbers.{not_refused}
 use Rattle.claims.proofs.OfDocket.Says.{admitted-within}
@@ -26,13 +26,16 @@ use Rattle.claims.proofs.OfDocket.Lists.{still-admitted}
 use Rattle.claims.proofs.OfDocket.Proved.{of_docket}
 use Rattle.claims.specs.OfPairs.{NoPairs, OfPairs}
 
-is_same : (s t : Bool) → Is s ≡ Is t → s ≡ t
+abbrev answered : {A : Type 0} → A → Result A Refusal
+answered x = Ok x
+
+is_same : (s t : Bool) → answered s ≡ answered t → s ≡ t
 is_same s t e = cc
 
 ran_same : (m n : ℕ) (s t : Bool) → ran m s ≡ ran n t → s ≡ t
 ran_same m n s t e = cc
 
-number_same : (m n : ℕ) → Number m ≡ Number n → m ≡ n
+number_same : (m n : ℕ) → answered m ≡ answered n → m ≡ n
 number_same m n e = cc
 
 module _ (b : List ℕ) (h : Header) (sound : SoundShape b h) where
@@ -43,20 +46,20 @@ module _ (b : List ℕ) (h : Header) (sound : SoundShape b h) where
     abbrev says : Demand1 b c
     says = (of_docket b).demand_1 c
 
-    number : (r : ℕ) → r < h.sizes.rules → pairs_of b c r ≡ Number (pairs P c r)
+    number : (r : ℕ) → r < h.sizes.rules → pairs_of b c r ≡ Ok (pairs P c r)
     number r l = ((says.can_act r).own h sound on).0 l
 
     -- The number is n just where the definition says n.
-    number_is : (r n : ℕ) → r < h.sizes.rules → (pairs_of b c r ≡ Number n) ↔ (pairs P c r ≡ n)
-    number_is r n l = (λ e. number_same _ _ (sym (number r l) ∙ e), λ e. number r l ∙ ap Number e)
+    number_is : (r n : ℕ) → r < h.sizes.rules → (pairs_of b c r ≡ Ok n) ↔ (pairs P c r ≡ n)
+    number_is r n l = (λ e. number_same _ _ (sym (number r l) ∙ e), λ e. number r l ∙ ap Ok e)
 
-    cannot_act : (r : ℕ) → r < h.sizes.rules → (pairs_of b c r ≡ Number 0) ↔ (enabled P c r ≡ false)
+    cannot_act : (r : ℕ) → r < h.sizes.rules → (pairs_of b c r ≡ Ok 0) ↔ (enabled P c r ≡ false)
     cannot_act r l = (λ e. (no_pairs P c r).0 ((number_is r 0 l).0 e), λ e. (number_is r 0 l).1 ((no_pairs P c r).1 e))
 
-    most : (r n : ℕ) → r < h.sizes.rules → pairs_of b c r ≡ Number n → n ≤ 499999500000
+    most : (r n : ℕ) → r < h.sizes.rules → pairs_of b c r ≡ Ok n → n ≤ 499999500000
     most r n l e = omega (arith, (number_is r n l).0 e, pairs-most c (P.p r) (P.q r) 1000000 (admitted-within P c on).1)
 
-    most_apart : (r n : ℕ) → r < h.sizes.rules → (P.p r ≡ P.q r → ⊥) → pairs_of b c r ≡ Number n → n ≤ 250000000000
+    most_apart : (r n : ℕ) → r < h.sizes.rules → (P.p r ≡ P.q r → ⊥) → pairs_of b c r ≡ Ok n → n ≤ 250000000000
     most_apart r n l apart e = omega (arith, (number_is r n l).0 e, apart_pairs-most c (P.p r) (P.q r) 1000000 (admitted-within P c on).1 apart)
 
     sum_most : sum_below h.sizes.rules (pairs P c) < 140737488355328
@@ -77,21 +80,21 @@ module _ (b : List ℕ) (h : Header) (sound : SoundShape b h) where
     refuses : (r : ℕ) → r < h.sizes.rules → enabled P c r ≡ false → reply_of b c (step r) ≡ refused 24 r
     refuses r l e = ((says.of_step r).own h sound on).2 l e
 
-    step_refused : (r : ℕ) → r < h.sizes.rules → (pairs_of b c r ≡ Number 0) ↔ (reply_of b c (step r) ≡ refused 24 r)
+    step_refused : (r : ℕ) → r < h.sizes.rules → (pairs_of b c r ≡ Ok 0) ↔ (reply_of b c (step r) ≡ refused 24 r)
     unfolding is_refused
     step_refused r l = (
       λ e. refuses r l ((cannot_act r l).0 e),
       λ e. (cannot_act r l).1 (is_false _ (λ t. not_refused stepped 24 r refl (sym (makes r l t) ∙ e))),
     )
 
-    step_made : (r : ℕ) → r < h.sizes.rules → ((n : ℕ) × (pairs_of b c r ≡ Number (suc n))) ↔ (reply_of b c (step r) ≡ stepped)
+    step_made : (r : ℕ) → r < h.sizes.rules → ((n : ℕ) × (pairs_of b c r ≡ Ok (suc n))) ↔ (reply_of b c (step r) ≡ stepped)
     unfolding is_refused
     step_made r l = (
       λ s. makes r l (is_true _ (λ f. let z : suc s.0 ≡ 0 = number_same _ _ (sym s.1 ∙ (cannot_act r l).1 f) in omega arith)),
       λ e. some (pairs P c r) (number r l) (λ z. not_refused stepped 24 r refl (sym e ∙ refuses r l ((no_pairs P c r).0 z))),
     )
       where
-        some : (k : ℕ) → pairs_of b c r ≡ Number k → (k ≡ 0 → ⊥) → (n : ℕ) × (pairs_of b c r ≡ Number (suc n))
+        some : (k : ℕ) → pairs_of b c r ≡ Ok k → (k ≡ 0 → ⊥) → (n : ℕ) × (pairs_of b c r ≡ Ok (suc n))
         some zero q not-0 = absurd (not-0 refl)
         some (suc k) q not-0 = (k, q)
 
@@ -102,10 +105,10 @@ module _ (b : List ℕ) (h : Header) (sound : SoundShape b h) where
       λ none. all_intro P.rules (λ r. not (enabled P c r)) (λ r l. ap not ((cannot_act r l).0 (none r l))),
     )
 
-    standstill : (terminal_of b c ≡ Is true) ↔ NoPairs b h c
+    standstill : (terminal_of b c ≡ Ok true) ↔ NoPairs b h c
     standstill =
-        let is : terminal_of b c ≡ Is (terminal P c) = says.standstill.own h sound on in
-        (λ e. at_rest.0 (is_same (terminal P c) true (sym is ∙ e)), λ none. is ∙ ap Is (at_rest.1 none))
+        let is : terminal_of b c ≡ Ok (terminal P c) = says.standstill.own h sound on in
+        (λ e. at_rest.0 (is_same (terminal P c) true (sym is ∙ e)), λ none. is ∙ ap Ok (at_rest.1 none))
 
   run_rests : (c : List ℕ) → admitted P c ≡ true → (limit n : ℕ) (rests : Bool) → reply_of b c (run limit) ≡ ran n rests
       → (rests ≡ true) ↔ NoPairs b h (counts_of b c (run limit))
@@ -123,7 +126,7 @@ of_pairs = record {
       let P = protocol_in b h in
       record {
         answers = number b h sound c on;
-        counted = λ r l n a agents. number b h sound c on r l ∙ ap Number (sym (pairs-counted c n a agents (P.p r) (P.q r)));
+        counted = λ r l n a agents. number b h sound c on r l ∙ ap Ok (sym (pairs-counted c n a agents (P.p r) (P.q r)));
         sum_counted = sum_counted P c;
         most = most b h sound c on;
         most_apart = most_apart b h sound c on;
@@ -133,7 +136,7 @@ of_pairs = record {
         step_made = step_made b h sound c on;
         standstill = standstill b h sound c on;
         run_rests = run_rests b h sound c on;
-        same_before = λ r e l m p q. number b h sound c on r l ∙ ap Number (rw (p, q)) ∙ sym (number b h sound c on e m);
+        same_before = λ r e l m p q. number b h sound c on r l ∙ ap Ok (rw (p, q)) ∙ sym (number b h sound c on e m);
       };
   some_agents = some_agents;
 }

@@ -1,5 +1,8 @@
 -- The claims about claim sheets are proved. Assumes nothing.
-use Rattle.std.specs.Prelude.{◌≡◌, Bool, true, false, List, [], ◌↔◌, ◌⊎◌, ℕ, ◌+◌, ◌≤◌, ◌<◌, ℤ, ◌≤ℤ◌, ◌<ℤ◌}
+use Rattle.std.specs.Prelude.{Result}
+use Rattle.checker.specs.declared.Summary.{Summary}
+use Rattle.refusals.specs.Refusal.{Refusal, refusal}
+use Rattle.std.specs.Prelude.{◌≡◌, Bool, true, false, List, [], ◌↔◌, ◌⊎◌, ℕ, ◌+◌, ◌≤◌, ◌<◌, ℤ, ◌≤ℤ◌, ◌<ℤ◌, Ok, Err}
 use Rattle.std.proofs.Math.Path.{refl, ap}
 use Rattle.std.proofs.Common.{sym, ◌∙◌, subst, inl, inr, arith}
 use Rattle.std.proofs.Math.Bool.{true≢false}
@@ -19,19 +22,14 @@ use Rattle.theory.proofs.Sheet.Laws.{answer_next}
 use Rattle.theory.specs.Claims.Theorems.{SheetAccepted}
 use Rattle.theory.proofs.Claims.Proved.{theorems}
 use Rattle.format.specs.Format.{header_of, sections_of, layers_in}
-use Rattle.shape.specs.Shape.{refusal}
 use Rattle.shape.specs.Sound.{SoundShape}
-use Rattle.shape.specs.declared.Refusal.{Refusal}
 use Rattle.checker.specs.Check.{check_of}
-use Rattle.checker.specs.Check.Laws.{accepted_sound}
-use Rattle.checker.specs.declared.Checked.{Checked}
-use Rattle.checker.specs.declared.Checked.TheVariants as checked
+use Rattle.checker.specs.Check.Laws.{accepted_shape}
 use Rattle.sheetshape.specs.SheetShape.{sheet_fault}
 use Rattle.sheet.specs.Sheet.{walked_sheet, sheet_check, check_sheet_of}
-use Rattle.sheet.specs.Code.Laws.{fault_refused, trees_checked, sheet-follows, docket_refused}
-use Rattle.sheet.specs.declared.SheetChecked.{SheetChecked}
-use Rattle.sheet.specs.declared.SheetChecked.TheVariants.{Accepted, Refused}
-use Rattle.codes.specs.Codes.{code, sheet_code}
+use Rattle.checker.specs.Check.{on_accepted}
+use Rattle.theory.proofs.Judge.Laws.{only_hit, only_pass, judge_done}
+use Rattle.codes.specs.Codes.{code, check_code}
 use Rattle.claims.specs.OfDocket.{IsAccepted, last_on}
 use Rattle.claims.proofs.OfDocket.Says.{demand_1}
 use Rattle.claims.proofs.OfDocket.Numbers.{is_one_of, check_numbers, check_number, check-number}
@@ -42,16 +40,16 @@ use Rattle.claims.proofs.OfSheet.Shape.{fault_none, reads}
 
 -- ---- Answers told apart
 
-refused_not : {r : Refusal} → Refused r ≡ Accepted → ⊥
+refused_not : {r : Refusal} → ◌≡◌ {A = Result (Unit {0}) Refusal} (Err r) (Ok tt) → ⊥
 refused_not {r} e = let z : ◌≡◌ {A = ℕ} 0 1 = cc in omega arith
 
-abbrev refusal_in : SheetChecked → Refusal
-refusal_in Accepted = refusal 0 0
-refusal_in (Refused r) = r
+abbrev refusal_in : Result (Unit {0}) Refusal → Refusal
+refusal_in (Ok t) = refusal 0 0
+refusal_in (Err r) = r
 
-by_checked : {X : Type 0} (a : Checked) → ((f : _) → a ≡ checked.Accepted f → X) → ((r : Refusal) → a ≡ checked.Refused r → X) → X
-by_checked (checked.Accepted f) g h = g f refl
-by_checked (checked.Refused r) g h = h r refl
+by_checked : {X : Type 0} (a : Result Summary Refusal) → ((f : _) → a ≡ Ok f → X) → ((r : Refusal) → a ≡ Err r → X) → X
+by_checked (Ok f) g h = g f refl
+by_checked (Err r) g h = h r refl
 
 -- ---- Signed numbers in order
 
@@ -72,7 +70,7 @@ module _ (b y : List ℕ) where
   abbrev fault : Bool
   fault = sheet_fault (header_of b).sizes (sections_of b (header_of b)).states y (K b y)
 
-  abbrev own : SheetChecked
+  abbrev own : Result (Unit {0}) Refusal
   own = sheet_check (header_of b).sizes (sections_of b (header_of b)) y
 
   abbrev answer : Walked
@@ -80,27 +78,29 @@ module _ (b y : List ℕ) where
 
   -- ---- The answer, by what the check says, by test 15 and by the two trees
 
-  passed_back : (r : Refusal) → check_of b ≡ checked.Refused r → check_sheet_of b y ≡ Refused r
-  passed_back r e = sym (docket_refused b y (check_of b) refl (Refused r) r e refl)
+  passed_back : (r : Refusal) → check_of b ≡ Err r → check_sheet_of b y ≡ Err r
+  unfolding check_sheet_of
+  passed_back r e = ap (on_accepted Err own) e
 
   on_accepted_lem : IsAccepted b → check_sheet_of b y ≡ own
-  on_accepted_lem a = sym (sheet-follows b y (check_of b) refl own a.0 (header_of b) a.1 refl refl)
+  unfolding check_sheet_of
+  on_accepted_lem a = ap (on_accepted Err own) a.1
 
-  on_fault : IsAccepted b → fault ≡ true → check_sheet_of b y ≡ Refused (refusal 15 0)
-  on_fault a t =
-      let h = header_of b in
-      let x = sections_of b h in
-      on_accepted_lem a ∙ sym (fault_refused b h x.states x.rules y (K b y) fault (Refused (refusal 15 0)) refl refl refl t refl)
+  on_fault : IsAccepted b → fault ≡ true → check_sheet_of b y ≡ Err (refusal 15 0)
+  unfolding sheet_check
+  on_fault a t = on_accepted_lem a ∙ sym (only_hit (λ n j. Err (refusal n j)) (walked_sheet answer) (Err (refusal 15 0)) 15 fault fault [] refl t refl)
 
   on_sound : IsAccepted b → fault ≡ false → check_sheet_of b y ≡ walked_sheet answer
+  unfolding sheet_check
   on_sound a t =
-      let h = header_of b in
-      let x = sections_of b h in
-      on_accepted_lem a ∙ sym (trees_checked b h x.states x.rules y (K b y) fault (walked_sheet answer) refl refl refl t refl refl)
+      let refuse : ℕ → ℕ → Result (Unit {0}) Refusal = λ n j. Err (refusal n j) in
+      on_accepted_lem a
+      ∙ sym (only_pass refuse (walked_sheet answer) (walked_sheet answer) 15 fault fault [] refl t
+      (judge_done refuse (walked_sheet answer) (walked_sheet answer) refl))
 
   -- An answer is the check's refusal, 15, or what the trees come to.
-  by_says : {X : Type 0} → ((r : Refusal) → check_of b ≡ checked.Refused r → check_sheet_of b y ≡ Refused r → X)
-      → (IsAccepted b → fault ≡ true → check_sheet_of b y ≡ Refused (refusal 15 0) → X)
+  by_says : {X : Type 0} → ((r : Refusal) → check_of b ≡ Err r → check_sheet_of b y ≡ Err r → X)
+      → (IsAccepted b → fault ≡ true → check_sheet_of b y ≡ Err (refusal 15 0) → X)
       → (IsAccepted b → fault ≡ false → check_sheet_of b y ≡ walked_sheet answer → X) → X
   by_says g h i =
       by_checked (check_of b)
@@ -110,7 +110,7 @@ module _ (b y : List ℕ) where
   -- ---- Acceptance
 
   sound : IsAccepted b → SoundShape b (header_of b)
-  sound a = accepted_sound b (check_of b) refl a.0 a.1 (header_of b) refl
+  sound a = let s = accepted_shape b a.0 a.1 in subst (SoundShape b) s.1.header s.1
 
   -- The two trees stand just where the walk of both is accepted.
   trees_stand : SheetAccepted (P b y) (Z b y) ↔ (TreeStands (P b y) (assumed₁ b y) (Z b y).first × TreeStands (P b y) (assumed₂ b y) (Z b y).second)
@@ -121,7 +121,7 @@ module _ (b y : List ℕ) where
       let two = T.tree_stands (assumed₂ b y) (Z b y).second in
       (λ e. let w = both.0 e in (one.0 w.0, two.0 w.1), λ s. both.1 (one.1 s.0, two.1 s.1))
 
-  walk_accepted : walked_sheet answer ≡ Accepted → SheetAccepted (P b y) (Z b y)
+  walk_accepted : walked_sheet answer ≡ Ok tt → SheetAccepted (P b y) (Z b y)
   walk_accepted e =
       by_answer answer
       (λ j q. q ∙ ap next (answer_next (P b y) (Z b y) j q))
@@ -195,11 +195,11 @@ module _ (b y : List ℕ) where
 
   -- ---- Refusals
 
-  same_refusal : (r q : Refusal) → Refused r ≡ Refused q → r ≡ q
+  same_refusal : (r q : Refusal) → ◌≡◌ {A = Result (Unit {0}) Refusal} (Err r) (Err q) → r ≡ q
   same_refusal r q e = ap refusal_in e
 
   -- The trees' refusal.
-  walk_refused : (n k : ℕ) → (walked_sheet answer ≡ Refused (refusal n k)) ↔ (answer ≡ refused n k)
+  walk_refused : (n k : ℕ) → (walked_sheet answer ≡ Err (refusal n k)) ↔ (answer ≡ refused n k)
   walk_refused n k = (
     λ e.
         by_answer answer
@@ -235,25 +235,25 @@ module _ (b y : List ℕ) where
       (λ s. let f = s.1.1 in (number_12_13 _ _ _ n s.1.0 f, let l = place-within _ _ _ n s.1.0 f in omega (arith, s.1.2)))
 
   -- The check's own refusals have other numbers than 15, and none has 0.
-  check_not : (r : Refusal) (n : ℕ) → is_one_of n check_numbers ≡ false → check_of b ≡ checked.Refused r → r.number ≡ n → ⊥
-  check_not r n out e q = true≢false (sym (check-number b) ∙ ap (λ (a : Checked). is_one_of (check_number a) check_numbers) e ∙ ap (λ (m : ℕ). is_one_of m check_numbers) q ∙ out)
+  check_not : (r : Refusal) (n : ℕ) → is_one_of n check_numbers ≡ false → check_of b ≡ Err r → r.number ≡ n → ⊥
+  check_not r n out e q = true≢false (sym (check-number b) ∙ ap (λ (a : Result Summary Refusal). is_one_of (check_number a) check_numbers) e ∙ ap (λ (m : ℕ). is_one_of m check_numbers) q ∙ out)
 
   abbrev Refusals : Refusal → Type 0
   Refusals r =
-      (check_of b ≡ checked.Refused r)
+      (check_of b ≡ Err r)
       ⊎ (r ≡ refusal 15 0)
       ⊎ (IsAccepted b × SheetSound b y × ((r.number ≡ 12) ⊎ (r.number ≡ 13)) × (r.place ≤ (K b y).first + (K b y).second))
 
-  all_refusals : (r : Refusal) → check_sheet_of b y ≡ Refused r → Refusals r
+  all_refusals : (r : Refusal) → check_sheet_of b y ≡ Err r → Refusals r
   all_refusals r e =
       by_says
-      (λ q c p. inl (c ∙ ap checked.Refused (same_refusal q r (sym p ∙ e))))
+      (λ q c p. inl (c ∙ ap Err (same_refusal q r (sym p ∙ e))))
       (λ a t p. inr (inl (same_refusal r (refusal 15 0) (sym e ∙ p))))
       (λ a t p.
       let f = fails_within r.number r.place ((trees_fail r.number r.place).0 ((walk_refused r.number r.place).0 (sym p ∙ e))) in
       inr (inr (a, (fault_none b y).0 t, f.0, f.1)))
 
-  refusal_15 : (check_sheet_of b y ≡ Refused (refusal 15 0)) ↔ (IsAccepted b × (SheetSound b y → ⊥))
+  refusal_15 : (check_sheet_of b y ≡ Err (refusal 15 0)) ↔ (IsAccepted b × (SheetSound b y → ⊥))
   unfolding is_one_of
   refusal_15 = (
     λ e.
@@ -300,14 +300,14 @@ module _ (b y : List ℕ) where
 
   codes : SheetCodes b y
   codes = record {
-    accepted = (λ e. zero_accepted (check_sheet_of b y) refl e, λ a. ap sheet_code a);
-    refused = λ r e. (ap sheet_code e, place_small r (all_refusals r e));
+    accepted = (λ e. zero_accepted (check_sheet_of b y) refl e, λ a. ap check_code a);
+    refused = λ r e. (ap check_code e, place_small r (all_refusals r e));
   }
     where
-      zero_accepted : (a : SheetChecked) → check_sheet_of b y ≡ a → sheet_code (check_sheet_of b y) ≡ 0 → check_sheet_of b y ≡ Accepted
-      zero_accepted Accepted q e = q
-      zero_accepted (Refused r) q e =
-          let z : code r ≡ 0 = sym (ap sheet_code q) ∙ e in
+      zero_accepted : (a : Result (Unit {0}) Refusal) → check_sheet_of b y ≡ a → check_code (check_sheet_of b y) ≡ 0 → check_sheet_of b y ≡ Ok tt
+      zero_accepted (Ok t) q e = q
+      zero_accepted (Err r) q e =
+          let z : code r ≡ 0 = sym (ap check_code q) ∙ e in
           absurd (number-some r (all_refusals r q) (omega arith))
 
 pub of_sheet : OfSheet

@@ -1,5 +1,9 @@
 -- The claims about totals are proved. Assumes nothing.
-use Rattle.std.specs.Prelude.{◌≡◌, refl, List, ◌++◌, map, length}
+use Rattle.std.specs.Result.{is_ok}
+use Rattle.std.specs.Prelude.{Result}
+use Rattle.checker.specs.declared.Summary.{Summary}
+use Rattle.refusals.specs.Refusal.{Refusal, refusal}
+use Rattle.std.specs.Prelude.{◌≡◌, refl, List, ◌++◌, map, length, Ok, Err}
 use Rattle.std.proofs.Math.Path.{sym, ap}
 use Rattle.std.proofs.Common.{◌∙◌, subst, inl, inr}
 use Rattle.std.proofs.Math.Bool.{Bool, true, false, true≢false}
@@ -30,19 +34,13 @@ use Rattle.theory.proofs.Machine.Laws.{RunList, run_numbers_is}
 use Rattle.theory.proofs.Machine.Rest.{exact_limit, rests_on_lem, runs_to_calls, runs_rest, rest-steps, rest_stands, rest-terminal}
 use Rattle.theory.specs.Claims.{Reaches}
 use Rattle.format.specs.Format.{header_of, protocol_in, layers_in, weight_in}
-use Rattle.shape.specs.Shape.{refusal}
-use Rattle.shape.specs.declared.Refusal.{Refusal}
 use Rattle.checker.specs.Check.{check_of}
-use Rattle.checker.specs.declared.Checked.{Checked}
-use Rattle.checker.specs.declared.Checked.TheVariants as checked
 use Rattle.totals.specs.Totals.{is_agreed, steps_to_rest, rests_on, resting_on, steps_at, totals_of, first_most, beyond, Allowed, refused_sheet, full_sheet, sheet_in, sheet_of}
 use Rattle.totals.proofs.TotalsLaws.{beyond_none, none_beyond, in_refused, in_full, runs_accepted, sheet_accepted, sheet_refused}
 use Rattle.totals.specs.Code.{Runs, Group}
 use Rattle.totals.proofs.CodeLaws.{group_admitted, bound_small}
 use Rattle.totals.proofs.TallyLaws.{start_group}
 use Rattle.totals.specs.declared.Totals.{Totals}
-use Rattle.totals.specs.declared.Tallied.{Tallied}
-use Rattle.totals.specs.declared.Tallied.TheVariants.{Counted, Refused}
 use Rattle.claims.specs.OfDocket.{IsAccepted, last_on, reported_on}
 use Rattle.claims.proofs.OfDocket.Numbers.{is_one_of, check_numbers, check_number, check-number}
 use Rattle.claims.proofs.OfDocket.Lists.{same_last, same_reported}
@@ -84,16 +82,16 @@ module _ (P : Protocol) (n : ℕ) where
 
 -- ---- What the call answers
 
-counted_not_refused : {t : Totals} {r : Refusal} → Refused r ≡ Counted t → ⊥
+counted_not_refused : {t : Totals} {r : Refusal} → Err r ≡ Ok t → ⊥
 counted_not_refused {t} {r} e = let z : ◌≡◌ {A = ℕ} 0 1 = cc in omega arith
 
-abbrev refusal_in : Tallied → Refusal
-refusal_in (Counted t) = refusal 0 0
-refusal_in (Refused r) = r
+abbrev refusal_in : Result Totals Refusal → Refusal
+refusal_in (Ok t) = refusal 0 0
+refusal_in (Err r) = r
 
-abbrev totals_in : Totals → Tallied → Totals
-totals_in d (Counted t) = t
-totals_in d (Refused r) = d
+abbrev totals_in : Totals → Result Totals Refusal → Totals
+totals_in d (Ok t) = t
+totals_in d (Err r) = d
 
 module _ (b : List ℕ) (n : ℕ) where
   abbrev P : Protocol
@@ -106,11 +104,11 @@ module _ (b : List ℕ) (n : ℕ) where
   w = weight_in b (header_of b)
 
   -- The sheet, by what the check says and by test 34.
-  passed_back : (r : Refusal) → check_of b ≡ checked.Refused r → sheet_of b n ≡ refused_sheet r
-  passed_back r e = sym (sheet_refused b n (check_of b) refl r (refused_sheet r) e refl)
+  passed_back : (r : Refusal) → check_of b ≡ Err r → sheet_of b n ≡ refused_sheet r
+  passed_back r e = sym (sheet_refused b n (refused_sheet r) r e refl)
 
   on_accepted_lem : IsAccepted b → sheet_of b n ≡ sheet_in P L w n
-  on_accepted_lem a = sym (sheet_accepted b n (check_of b) refl a.0 a.1 (header_of b) refl (sheet_in P L w n) refl)
+  on_accepted_lem a = sym (sheet_accepted b n (sheet_in P L w n) (ap is_ok a.1) refl)
 
   full : IsAccepted b → beyond (inputs_of P) n ≡ false → sheet_of b n ≡ full_sheet P L w n
   full a u = on_accepted_lem a ∙ in_full P L w n false u refl
@@ -119,18 +117,18 @@ module _ (b : List ℕ) (n : ℕ) where
   not_full a u = on_accepted_lem a ∙ in_refused P L w n true u refl
 
   -- One of three holds.
-  by_answer : {X : Type 0} → ((r : Refusal) → check_of b ≡ checked.Refused r → X) → (IsAccepted b → beyond (inputs_of P) n ≡ true → X)
+  by_answer : {X : Type 0} → ((r : Refusal) → check_of b ≡ Err r → X) → (IsAccepted b → beyond (inputs_of P) n ≡ true → X)
       → (IsAccepted b → beyond (inputs_of P) n ≡ false → X) → X
   by_answer {X} on-refused on-34 on-full = go (check_of b) refl
     where
-      go : (a : Checked) → check_of b ≡ a → X
-      go (checked.Accepted f) e = by_test (beyond (inputs_of P) n) (on-34 (f, e)) (on-full (f, e))
-      go (checked.Refused r) e = on-refused r e
+      go : (a : Result Summary Refusal) → check_of b ≡ a → X
+      go (Ok f) e = by_test (beyond (inputs_of P) n) (on-34 (f, e)) (on-full (f, e))
+      go (Err r) e = on-refused r e
 
   -- The check has no number 34.
-  not_34 : (r : Refusal) → check_of b ≡ checked.Refused r → r ≡ refusal 34 0 → ⊥
+  not_34 : (r : Refusal) → check_of b ≡ Err r → r ≡ refusal 34 0 → ⊥
   unfolding is_one_of
-  not_34 r q e = true≢false (sym (check-number b) ∙ ap (λ a. is_one_of (check_number a) check_numbers) (q ∙ ap checked.Refused e))
+  not_34 r q e = true≢false (sym (check-number b) ∙ ap (λ a. is_one_of (check_number a) check_numbers) (q ∙ ap Err e))
 
   sheet-answers : SheetAnswers b n
   sheet-answers = record {
@@ -153,7 +151,7 @@ module _ (b : List ℕ) (n : ℕ) where
     );
     refusals = λ r e.
         by_answer
-        (λ q c. inl (c ∙ ap checked.Refused (ap refusal_in (sym (ap (λ s. s.tallied) (passed_back q c)) ∙ e))))
+        (λ q c. inl (c ∙ ap Err (ap refusal_in (sym (ap (λ s. s.tallied) (passed_back q c)) ∙ e))))
         (λ a u. inr (sym (ap refusal_in (sym (ap (λ s. s.tallied) (not_full a u)) ∙ e))))
         (λ a u. absurd (counted_not_refused (sym e ∙ ap (λ s. s.tallied) (full a u))));
     no_counts = λ r e.
@@ -177,7 +175,7 @@ module _ (b : List ℕ) (n : ℕ) (accepted : IsAccepted b) (small : Allowed (pr
   w₁ = weight_in b (header_of b)
 
   good : Runs b (header_of b)
-  good = runs_accepted b n (check_of b) refl accepted.0 accepted.1 (header_of b) refl
+  good = runs_accepted b accepted.0 accepted.1
 
   lad : Laddered P₁ L₁ w₁
   lad = good.ladder
@@ -318,7 +316,7 @@ module _ (b : List ℕ) (n : ℕ) (accepted : IsAccepted b) (small : Allowed (pr
         behind = ap (λ k. drop k (first_most P₁ L₁ w₁ n ++ zeros)) (sym most_long) ∙ drop-append_seam (first_most P₁ L₁ w₁ n) zeros;
       }
 
-totals_are : (b : List ℕ) (n : ℕ) (t : Totals) → (sheet_of b n).tallied ≡ Counted t → TotalsAre b n t (sheet_of b n).first
+totals_are : (b : List ℕ) (n : ℕ) (t : Totals) → (sheet_of b n).tallied ≡ Ok t → TotalsAre b n t (sheet_of b n).first
 totals_are b n t e =
     let g = (sheet-answers b n).counted_is.0 (t, e) in
     let is = full b n g.0 (none_beyond (protocol_in b (header_of b)) n g.1) in

@@ -1,5 +1,6 @@
 -- The claims about versions are proved: both dockets have one protocol. Assumes nothing.
-use Rattle.std.specs.Prelude.{◌≡◌, refl, Bool, not, ◌&&◌, ◌||◌, List, [], ◌∷◌, ◌++◌, ℕ, zero, suc, ◌+◌, ◌*◌, ◌/◌, ◌%◌, ltb, eqb, length, get_or, take}
+use Rattle.refusals.specs.Refusal.{Refusal, refusal}
+use Rattle.std.specs.Prelude.{◌≡◌, refl, Bool, not, ◌&&◌, ◌||◌, List, [], ◌∷◌, ◌++◌, ℕ, zero, suc, ◌+◌, ◌*◌, ◌/◌, ◌%◌, ltb, eqb, length, get_or, take, Err}
 use Rattle.std.proofs.Common.{sym, ◌∙◌, inr}
 use Rattle.std.proofs.Math.Path.{ap, subst, fun_ext}
 use Rattle.std.proofs.Math.Nat.{mul-div_cancel_left}
@@ -14,20 +15,13 @@ use Rattle.format.specs.Format.{header_of, Sections, sections, sections_of, stat
 use Rattle.format.specs.Format.{flags, fixed_of, protocol_of, layers_of, protocol_in, layers_in}
 use Rattle.format.specs.declared.Sizes.{Sizes}
 use Rattle.format.specs.declared.Header.{Header}
-use Rattle.shape.specs.Shape.{refusal, bad_state, bad_layer, section_tests, header_tests}
+use Rattle.shape.specs.Shape.{bad_state, bad_layer, section_tests, header_tests}
 use Rattle.shape.specs.Shape.{shape_of, by_shape}
 use Rattle.shape.specs.Sound.{Limits, InOrder, SoundShape}
 use Rattle.shape.proofs.SoundLaws.{header_passes, clear_order, sound_passes, sound_lengths, shape_sound}
-use Rattle.shape.specs.declared.Refusal.{Refusal}
-use Rattle.shape.specs.declared.Shape.TheVariants.{Refused}
 use Rattle.leaf.specs.Leaf.{bad_leaf}
 use Rattle.checker.specs.Check.{sections_check, check_of}
-use Rattle.checker.specs.declared.Checked.TheVariants as checked
 use Rattle.machine.specs.Calls.{start_answer, pairs_answer, terminal_answer, verdict_answer, start_of, pairs_of, terminal_of, verdict_of, reply_of, counts_of}
-use Rattle.machine.specs.declared.Started.TheVariants as started
-use Rattle.machine.specs.declared.Pairs.TheVariants as paired
-use Rattle.machine.specs.declared.YesNo.TheVariants as yesNo
-use Rattle.machine.specs.declared.Verdict.TheVariants as shown
 use Rattle.writer.specs.Write.{records, sizes_in, WholeRecords, header_for}
 use Rattle.writer.proofs.WriteLaws.{docket_length}
 use Rattle.writer.proofs.RoundTripLaws.{header_same, sections_same, written_laid, written_sound, sizes_same}
@@ -213,7 +207,7 @@ module _ (b : List ℕ) (h : Header) (g : SoundShape b h) (one : h.sizes.version
       (header_passes d H (inr refl) within (written_laid 2 y (inr refl) whole within))
       (states_pass, (old.1.0, (old.1.1.0, tt))))
 
-  out_of_order : (e : ℕ) → FirstNotAfter z.rules x.rules e → shape_of d ≡ Refused (refusal 14 (suc e))
+  out_of_order : (e : ℕ) → FirstNotAfter z.rules x.rules e → shape_of d ≡ Err (refusal 14 (suc e))
   out_of_order e first =
       let there = subst (λ (k : Sizes). FirstNotAfter k.rules x.rules e) (sym sizes_are) first in
       let here = subst (λ (u : Sections). FirstNotAfter H.sizes.rules u.rules e) (sym (sections_same 2 y (inr refl) whole within)) there in
@@ -256,11 +250,11 @@ module _ (b : List ℕ) (h : Header) (g : SoundShape b h) (one : h.sizes.version
     alike : Alike b d
     unfolding check_of start_of pairs_of terminal_of verdict_of reply_of counts_of
     alike = record {
-      check = same_by checked.Refused (λ c k. sections_check k.sizes (sections_of c k)) (read_as sections_check ∙ checks);
-      start = λ c. same_by started.Refused (λ e k. start_answer (protocol_in e k) c) (ap (λ P. start_answer P c) protocols);
-      can_act = λ c r. same_by paired.Refused (λ e k. pairs_answer (protocol_in e k) c r) (ap (λ P. pairs_answer P c r) protocols);
-      standstill = λ c. same_by yesNo.Refused (λ e k. terminal_answer (protocol_in e k) c) (ap (λ P. terminal_answer P c) protocols);
-      verdict = λ c. same_by shown.Refused (λ e k. verdict_answer (protocol_in e k) c) (ap (λ P. verdict_answer P c) protocols);
+      check = same_by Err (λ c k. sections_check k.sizes (sections_of c k)) (read_as sections_check ∙ checks);
+      start = λ c. same_by Err (λ e k. start_answer (protocol_in e k) c) (ap (λ P. start_answer P c) protocols);
+      can_act = λ c r. same_by Err (λ e k. pairs_answer (protocol_in e k) c r) (ap (λ P. pairs_answer P c r) protocols);
+      standstill = λ c. same_by Err (λ e k. terminal_answer (protocol_in e k) c) (ap (λ P. terminal_answer P c) protocols);
+      verdict = λ c. same_by Err (λ e k. verdict_answer (protocol_in e k) c) (ap (λ P. verdict_answer P c) protocols);
       of_call = λ c u. (
         same_by (λ r. refused r.number r.place) (λ e k. reply (protocol_in e k) (layers_in e k) c u)
             (ap (λ P. reply P (layers_in d H) c u) protocols ∙ ap (λ L. reply (protocol_in b h) L c u) layers),

@@ -1,5 +1,7 @@
 -- The claims about the writer are proved. Assumes nothing.
-use Rattle.std.specs.Prelude.{◌≡◌, false, List, [], ◌∷◌, ◌++◌, ◌↔◌, ◌⊎◌, ℕ, ◌≤◌, ◌<◌, ltb, length, take, drop}
+use Rattle.std.specs.Prelude.{Result}
+use Rattle.refusals.specs.Refusal.{Refusal, refusal}
+use Rattle.std.specs.Prelude.{◌≡◌, false, List, [], ◌∷◌, ◌++◌, ◌↔◌, ◌⊎◌, ℕ, ◌≤◌, ◌<◌, ltb, length, take, drop, Ok, Err}
 use Rattle.std.proofs.Math.Path.{refl, ap}
 use Rattle.std.proofs.Common.{sym, ◌∙◌, subst, inl, inr, arith, ltb-true, ltb-false, lt-ltb, take_at, drop_at}
 use Rattle.std.proofs.Math.Bool.{true}
@@ -15,47 +17,43 @@ use Rattle.theory.proofs.Subtree.Laws.{number_12_13}
 use Rattle.format.specs.Format.{header_of, Sections, sections_of, end_weight}
 use Rattle.format.specs.declared.Sizes.{Sizes}
 use Rattle.format.specs.declared.Header.{Header}
-use Rattle.shape.specs.Shape.{refusal, nth, wrong_version, version_test, count_test, section_tests, shape_tests}
+use Rattle.shape.specs.Shape.{nth, wrong_version, version_test, count_test, section_tests, shape_tests}
 use Rattle.shape.specs.Sound.{IsVersion, Limits, SoundShape}
 use Rattle.shape.proofs.SoundLaws.{version_passes, limits, sound_passes}
-use Rattle.shape.specs.declared.Refusal.{Refusal}
 use Rattle.leaf.specs.Leaf.{bad_leaf, leaf_test}
 use Rattle.leaf.specs.Leaf.Laws.{leaf_good, leaf-bad}
 use Rattle.checker.specs.Check.{certificate_tests, check_of}
-use Rattle.checker.specs.declared.Checked.TheVariants as checked
 use Rattle.writer.specs.Write.{lengths_of, length_faults, sizes_in, WholeRecords, AreBytes, header_for, docket_of}
 use Rattle.writer.specs.Write.{length_test, record_tests, room_test, part_tests, write_tests, write_of, output_of, written}
 use Rattle.writer.proofs.WriteLaws.{whole_records, whole_clear, docket_length, total-length, total_by_width, room_passes}
 use Rattle.writer.proofs.RoundTripLaws.{header_same, sections_same, written_sound, written-again, again-passes}
-use Rattle.writer.specs.declared.Written.{Written}
-use Rattle.writer.specs.declared.Written.TheVariants.{Total, Refused}
-use Rattle.codes.specs.Codes.{write_code}
+use Rattle.codes.specs.Codes.{answer_code}
 use Rattle.claims.proofs.OfDocket.Numbers.{is_one_of, judge-number}
 use Rattle.claims.proofs.OfDocket.Codes.{not_zero, fits-place}
 use Rattle.claims.proofs.OfDocket.Refusals as check
 use Rattle.claims.specs.OfDocket.{LeafWeights}
 use Rattle.claims.specs.OfWriter.{Readable, Answers, Wrote, OfWriter}
 
-abbrev refuse : ℕ → ℕ → Written
-refuse n k = Refused (refusal n k)
+abbrev refuse : ℕ → ℕ → Result ℕ Refusal
+refuse n k = Err (refusal n k)
 
 -- Of a total any of the writer's numbers will do.
-abbrev number_in : Written → ℕ
-number_in (Total n) = 3
-number_in (Refused r) = r.number
+abbrev number_in : Result ℕ Refusal → ℕ
+number_in (Ok n) = 3
+number_in (Err r) = r.number
 
-abbrev place_in : Written → ℕ
-place_in (Total n) = 0
-place_in (Refused r) = r.place
+abbrev place_in : Result ℕ Refusal → ℕ
+place_in (Ok n) = 0
+place_in (Err r) = r.place
 
-abbrev total_in : Written → ℕ
-total_in (Total n) = n
-total_in (Refused r) = 0
+abbrev total_in : Result ℕ Refusal → ℕ
+total_in (Ok n) = n
+total_in (Err r) = 0
 
 tells : (n k m j : ℕ) → refuse n k ≡ refuse m j → (n ≡ m) × (k ≡ j)
 tells n k m j e = (ap number_in e, ap place_in e)
 
-refused_not_total : {r : Refusal} {n : ℕ} → Refused r ≡ Total n → ⊥
+refused_not_total : {r : Refusal} {n : ℕ} → Err r ≡ Ok n → ⊥
 refused_not_total {r} {n} e = let z : ◌≡◌ {A = ℕ} 0 1 = cc in omega arith
 
 module _ (v : ℕ) (x : Sections) (out : List ℕ) where
@@ -65,20 +63,20 @@ module _ (v : ℕ) (x : Sections) (out : List ℕ) where
   abbrev len : ℕ
   len = length (docket_of v x)
 
-  total_is : (n : ℕ) → (write_of v x (length out) ≡ Total n) ↔ (Passes tests × (n ≡ len))
+  total_is : (n : ℕ) → (write_of v x (length out) ≡ Ok n) ↔ (Passes tests × (n ≡ len))
   unfolding write_of
   total_is n = (
     λ e.
-        let p = judge-passes refuse (Total len) (Total n) (λ m k. refused_not_total) tests e in
-        (p, ap total_in (sym e ∙ passes-judge refuse (Total len) tests p)),
-    λ p. passes-judge refuse (Total len) tests p.0 ∙ ap Total (sym p.1),
+        let p = judge-passes refuse (Ok len) (Ok n) (λ m k. refused_not_total) tests e in
+        (p, ap total_in (sym e ∙ passes-judge refuse (Ok len) tests p)),
+    λ p. passes-judge refuse (Ok len) tests p.0 ∙ ap Ok (sym p.1),
   )
 
   refusal_is : (n k : ℕ) → (write_of v x (length out) ≡ refuse n k) ↔ FirstFits tests n k
   unfolding write_of
   refusal_is n k = (
-    λ e. ⊎_elim (λ f. f) (λ p. absurd (refused_not_total (sym p.1))) (refused_by refuse (Total len) tells tests n k e),
-    fits_refuses refuse (Total len) tests n k,
+    λ e. ⊎_elim (λ f. f) (λ p. absurd (refused_not_total (sym p.1))) (refused_by refuse (Ok len) tells tests n k e),
+    fits_refuses refuse (Ok len) tests n k,
   )
 
   -- The version by its test.
@@ -170,16 +168,16 @@ module _ (v : ℕ) (x : Sections) (out : List ℕ) where
   one_of : is_one_of (number_in (write_of v x (length out))) numbers ≡ true
   unfolding is_one_of write_of
   one_of =
-      judge-number number_in refuse (Total len) numbers (λ n k. refl) refl tests
+      judge-number number_in refuse (Ok len) numbers (λ n k. refl) refl tests
       (refl, (refl, (refl, (refl, (refl, (refl, (refl, (refl, (refl, (refl, tt))))))))))
 
-  code : (write_code (write_of v x (length out)) ≡ 0) ↔ ((n : ℕ) × (write_of v x (length out) ≡ Total n))
+  code : (answer_code (write_of v x (length out)) ≡ 0) ↔ ((n : ℕ) × (write_of v x (length out) ≡ Ok n))
   unfolding is_one_of
-  code = (go (write_of v x (length out)) one_of, λ s. ap write_code s.1)
+  code = (go (write_of v x (length out)) one_of, λ s. ap answer_code s.1)
     where
-      go : (a : Written) → is_one_of (number_in a) numbers ≡ true → write_code a ≡ 0 → (n : ℕ) × (a ≡ Total n)
-      go (Total n) p e = (n, refl)
-      go (Refused r) p e = absurd (not_zero r.number numbers p refl (omega arith))
+      go : (a : Result ℕ Refusal) → is_one_of (number_in a) numbers ≡ true → answer_code a ≡ 0 → (n : ℕ) × (a ≡ Ok n)
+      go (Ok n) p e = (n, refl)
+      go (Err r) p e = absurd (not_zero r.number numbers p refl (omega arith))
 
   place : (n k : ℕ) → write_of v x (length out) ≡ refuse n k → k < 65536
   place n k e =
@@ -216,7 +214,7 @@ module _ (v : ℕ) (x : Sections) (out : List ℕ) where
     place = place;
   }
 
-  unchanged : (r : Refusal) → write_of v x (length out) ≡ Refused r → output_of v x out ≡ out
+  unchanged : (r : Refusal) → write_of v x (length out) ≡ Err r → output_of v x out ≡ out
   unfolding output_of
   unchanged r e = ap (written v x out) e
 
@@ -260,7 +258,7 @@ module _ (v : ℕ) (x : Sections) (p : Passes (version_test v ∷ length_test v 
         (λ l e s i. leaf_good z x.leaves l (clear l i) e s);
   }
 
-  check_says : (m k : ℕ) → check_of b ≡ checked.Refused (refusal m k) → (m ≡ 9) ⊎ (m ≡ 10) ⊎ (m ≡ 12) ⊎ (m ≡ 13)
+  check_says : (m k : ℕ) → check_of b ≡ Err (refusal m k) → (m ≡ 9) ⊎ (m ≡ 10) ⊎ (m ≡ 12) ⊎ (m ≡ 13)
   check_says m k e =
       let h = header_of b in
       let y = sections_of b h in
@@ -277,7 +275,7 @@ module _ (v : ℕ) (x : Sections) (p : Passes (version_test v ∷ length_test v 
       (λ q. ⊎_elim (λ d. inr (inr (inl d))) (λ d. inr (inr (inr d))) (number_12_13 _ _ _ m k q.1))
       ((check.refusal_is b m k).0 e)
 
-module _ (v : ℕ) (x : Sections) (out : List ℕ) (n : ℕ) (e : write_of v x (length out) ≡ Total n) where
+module _ (v : ℕ) (x : Sections) (out : List ℕ) (n : ℕ) (e : write_of v x (length out) ≡ Ok n) where
   abbrev all : Passes (write_tests v x (length out)) × (n ≡ length (docket_of v x))
   all = (total_is v x out n).0 e
 
@@ -331,7 +329,7 @@ module _ (b : List ℕ) (bytes : AreBytes b) (h : Header) (g : Readable b h) whe
   passes-again : (room : ℕ) → length b ≤ room → Passes (write_tests v x room)
   passes-again = again-passes b h g.shape bytes ((leaf_weights_is b h).0 g.leaf_weights).0
 
-  again : (out : List ℕ) → length b ≤ length out → (write_of v x (length out) ≡ Total (length b)) × (output_of v x out ≡ b ++ drop (length b) out)
+  again : (out : List ℕ) → length b ≤ length out → (write_of v x (length out) ≡ Ok (length b)) × (output_of v x out ≡ b ++ drop (length b) out)
   again out fits =
       let total = (total_is v x out (length b)).1 (passes-again (length out) fits, sym (ap length same)) in
       (total, output v x out (length b) total ∙ ap (λ d. d ++ drop (length b) out) same)

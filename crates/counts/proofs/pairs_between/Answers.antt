@@ -7,8 +7,8 @@ use Rattle.counts.proofs.pairs_between.Goals as goal
 pub overflow_mul-met : goal.overflow_mul-met
 overflow_mul-met c = search (product_below 4294967296, rules)
 
-pub returns-then-same : goal.returns-then-same
-returns-then-same c = search (pairs_same, rules)
+pub returns-then-p-q : goal.returns-then-p-q
+returns-then-p-q c = search (pairs_same, rules)
 
-pub returns : goal.returns
-returns c = search (pairs_apart, rules)
+pub returns-else-p-q : goal.returns-else-p-q
+returns-else-p-q c = search (pairs_apart, rules)

@@ -8,6 +8,3 @@ gain-requires c = search (most_more, rules)
 
 pub gain-requires-2 : goal.gain-requires-2
 gain-requires-2 c = search (most_put, rules)
-
-pub returns : goal.returns
-returns c = cc

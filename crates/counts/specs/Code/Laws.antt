@@ -1,19 +1,20 @@
 -- Laws for the functions on counts and for their callers. Assumes nothing.
-use Rattle.std.specs.Prelude.{◌≡◌, refl, Bool, not, cond, List, [], ◌⊎◌, ℕ, ◌+◌, ◌-◌, ◌*◌, ◌/◌, ◌≤◌, ◌<◌, leb, ltb, length, get_or, set}
+use Rattle.std.specs.Prelude.{◌≡◌, refl, Bool, not, cond, ◌&&◌, List, [], ℕ, ◌+◌, ◌-◌, ◌*◌, ◌/◌, ◌≤◌, ◌<◌, leb, ltb, length, get_or, set, sum, Option, Some, None, Result, Ok, Err}
 use Rattle.std.proofs.Math.Path.{sym}
-use Rattle.std.proofs.Common.{ap, ◌∙◌, inl, inr, ⊎_elim, arith, get_or-set_same, get_or-set_other}
+use Rattle.std.specs.Option.{MatchOption}
+use Rattle.std.proofs.Common.{ap, ◌∙◌, subst, arith, get_or-set_same, get_or-set_other}
 use Rattle.std.proofs.Math.Bool.{true, false}
 use Rattle.std.proofs.Math.Logic.{by_cases}
 use Rattle.std.proofs.Math.Decide.{dec_lt, ℕ_discrete}
-use borrow.Author.Tests.{ltb-true, ltb-false, lt-ltb, le-ltb, le-leb, lt-leb, leb-true, eq-eqb, eqb-true, not-true, not-false}
+use borrow.Author.Tests.{ltb-true, ltb-false, lt-ltb, le-ltb, leb-true, eq-eqb, eqb-true}
 use Rattle.std.proofs.Math.Dec.{eqb}
-use Rattle.std.proofs.Math.ListN.{get_or-eq_default}
-use Rattle.std.proofs.lemmas.List.{set-get_or}
+use Rattle.std.proofs.lemmas.List.Recursion.{is_sum_by}
 use Rattle.std.proofs.Math.Seq.{set_out}
 use Rattle.theory.proofs.Bool.Laws.{by_test, not_both, is_false, and_intro, and_elim}
-use Rattle.theory.specs.Below.{sum_below, first_below}
-use Rattle.theory.proofs.Below.Laws.{below_suc, sum_same, first_le, first_is}
-use Rattle.theory.proofs.Weigh.Laws.{weigh-sum, weigh_at}
+use Rattle.theory.specs.Below.{first_below}
+use Rattle.theory.proofs.Below.Laws.{below_suc, first_le, first_is}
+use Rattle.theory.proofs.Weigh.Laws.{weigh_at}
+use Rattle.theory.specs.Weigh.{weigh}
 use Rattle.theory.specs.Protocol.{Protocol, count, size, lose, gain, enabled, fire, unfit}
 use Rattle.theory.specs.Pairs.{pairs_between, pairs}
 use Rattle.theory.proofs.Pairs.Laws.{pairs-own, pairs_other, enabled-pairs}
@@ -24,16 +25,11 @@ use Rattle.format.specs.Code.{Value}
 use Rattle.format.specs.Format.{fixed_of, is_input, rule_of, protocol_of}
 use Rattle.format.specs.declared.Sizes.{Sizes}
 use Rattle.format.specs.declared.Rule.{Rule}
-use Rattle.counts.specs.Code.{counts_fault, partners_of, pair_enabled, Most}
+use Rattle.refusals.specs.Refusal.{Refusal, refusal}
+use Rattle.refusals.specs.Code.{refused_if}
+use Rattle.counts.specs.Code.{counts_test, chosen_of, partners_of, pair_enabled, Most}
 
 -- ---- One count
-
-pub past_count : (c : List ℕ) (s : ℕ) → length c ≤ s → 0 ≡ get_or c s 0
-past_count c s h = sym (get_or-eq_default c 0 h)
-
-pub lose_none : (c : List ℕ) (s : ℕ) → get_or c s 0 ≤ 0 → c ≡ lose c s
-unfolding lose
-lose_none c s h = sym (ap (set c s) (let e : get_or c s 0 - 1 ≡ get_or c s 0 = omega arith in e) ∙ set-get_or c s 0)
 
 pub lose_past : (c : List ℕ) (s : ℕ) → length c ≤ s → c ≡ lose c s
 unfolding lose
@@ -84,57 +80,89 @@ most-fits c s h = omega (arith, h s)
 
 -- ---- Tests 20 and 21
 
-size-sum : (c : List ℕ) → size c ≡ sum_below (length c) (λ s. get_or c s 0)
-unfolding size
-size-sum c = weigh-sum (λ _. 1) c ∙ sum_same (length c) (λ s. 1 * get_or c s 0) (λ s. get_or c s 0) (λ s l. omega arith)
+pub size_is : (c : List ℕ) (m : ℕ) → m ≡ sum c → m ≡ size c
+unfolding size weigh
+size_is c m e = e ∙ sym (is_sum_by (weigh (λ _. 1)) (λ x. x) refl (λ x xs. omega arith) c)
 
--- The fault of counts that are not one for each state; then, where they are, of those whose size is below 2, above a
--- million, within.
-module _ (n : ℕ) (c : List ℕ) (t : Bool) (e : t ≡ not (eqb (length c) n)) where
-  pub fault_unsized : t ≡ true → 20 ≡ counts_fault n c
-  unfolding counts_fault
-  fault_unsized d = let unlike : eqb (length c) n ≡ false = not-true _ (sym e ∙ d) in rw unlike
+abbrev IsOk : Result (Unit {0}) Refusal → Type 0
+IsOk (Ok a) = Unit {0}
+IsOk (Err r) = ⊥
 
-  module _ (d : t ≡ false) (m : ℕ) (s : m ≡ sum_below n (λ s. get_or c s 0)) where
-    like : eqb (length c) n ≡ true
-    like = not-false _ (sym e ∙ d)
+-- x is what test 20 finds, and y what test 21 finds, where w says whether the size m is within the bounds.
+module _ (n : ℕ) (c : List ℕ) (x : Result (Unit {0}) Refusal) where
+  first_refuses : (like : Bool) (y : Result (Unit {0}) Refusal) (q : Refusal) → x ≡ refused_if 20 (not like) → x ≡ Err q
+      → x ≡ cond like y (Err (refusal 20 0))
+  first_refuses true y q d u = absurd (subst IsOk (sym d ∙ u) tt)
+  first_refuses false y q d u = d
 
-    sized : m ≡ size c
-    sized = s ∙ sym (size-sum c ∙ ap (λ k. sum_below k (λ s. get_or c s 0)) (eqb-true _ _ like))
+  first_passes : (like : Bool) (y : Result (Unit {0}) Refusal) → x ≡ refused_if 20 (not like) → x ≡ Ok tt
+      → y ≡ cond like y (Err (refusal 20 0))
+  first_passes true y d u = refl
+  first_passes false y d u = absurd (subst IsOk (sym u ∙ d) tt)
 
-    pub fault-below : m < 2 → 21 ≡ counts_fault n c
-    unfolding counts_fault is_within
-    fault-below l = rw (like, lt-leb 2 (size c) (omega (arith, sized)))
+  module _ (d : x ≡ refused_if 20 (not (eqb (length c) n))) where
+    pub counts_refuse : (r : Result (Unit {0}) Refusal) (q : Refusal) → x ≡ Err q → r ≡ Err q → r ≡ counts_test n c
+    unfolding counts_test
+    counts_refuse r q u h = h ∙ sym u ∙ first_refuses (eqb (length c) n) _ q d u
 
-    pub fault_above : 2 ≤ m → 1000000 < m → 21 ≡ counts_fault n c
-    unfolding counts_fault is_within
-    fault_above g l = rw (like, le-leb 2 (size c) (omega (arith, sized)), lt-leb (size c) 1000000 (omega (arith, sized)))
+    pub counts_second : x ≡ Ok tt → (y : Result (Unit {0}) Refusal) (m : ℕ) (w : Bool) → m ≡ size c → w ≡ leb 2 m && leb m 1000000
+        → y ≡ refused_if 21 (not w) → y ≡ counts_test n c
+    unfolding counts_test is_within
+    counts_second u y m w s e g =
+        first_passes (eqb (length c) n) y d u
+        ∙ ap (λ z. cond (eqb (length c) n) z (Err (refusal 20 0))) (g ∙ rw (e, s) (turn (leb 2 (size c) && leb (size c) 1000000)))
+      where
+        turn : (b : Bool) → refused_if 21 (not b) ≡ cond b (Ok tt) (Err (refusal 21 0))
+        turn true = refl
+        turn false = refl
 
-    pub fault-within : 2 ≤ m → m ≤ 1000000 → 0 ≡ counts_fault n c
-    unfolding counts_fault is_within
-    fault-within g l = rw (like, le-leb 2 (size c) (omega (arith, sized)), le-leb (size c) 1000000 (omega (arith, sized)))
+pub ruleset counts-tests = (counts_refuse, counts_second)
 
--- The fault is theory's refusal of the counts: it is 0 just where they are admitted, and `admit` refuses by it.
+-- The tests are theory's refusal of the counts: they pass just where the counts are admitted, and `admit` refuses by them.
 module _ (P : Protocol) (c : List ℕ) where
-  pub fault-admitted : eqb (counts_fault P.states c) 0 ≡ admitted P c
-  unfolding counts_fault admitted is_sized
-  fault-admitted = by_test (eqb (length c) P.states) (λ s. by_test (is_within c) (λ w. rw (s, w)) (λ w. rw (s, w))) (λ s. rw s)
+  module _ (e : Ok tt ≡ counts_test P.states c) where
+    passed : (is_sized P c ≡ true) × (is_within c ≡ true)
+    unfolding counts_test is_sized
+    passed =
+        by_test (eqb (length c) P.states)
+        (λ s. (s, by_test (is_within c) (λ w. w) (λ w. absurd (subst IsOk (rw (s, w) at e) tt))))
+        (λ s. absurd (subst IsOk (rw s at e) tt))
 
-  pub admit-fault : {A : Type 0} (refuse : ℕ → A) (x : A)
-      → admit P c refuse x ≡ cond (eqb (counts_fault P.states c) 0) x (refuse (counts_fault P.states c))
-  unfolding counts_fault admit is_sized
-  admit-fault refuse x =
-      by_test (eqb (length c) P.states) (λ s. by_test (is_within c) (λ w. rw (s, w)) (λ w. rw (s, w))) (λ s. rw s)
+    pub test_admitted : admitted P c ≡ true
+    unfolding admitted
+    test_admitted = and_intro _ _ passed.0 passed.1
 
--- Counts without a fault have a million agents at most.
-pub fault-size : (n : ℕ) (c : List ℕ) → counts_fault n c ≡ 0 → size c ≤ 1000000
-unfolding counts_fault is_within
-fault-size n c e =
-    by_test (eqb (length c) n)
-    (λ s. by_test (is_within c)
-    (λ w. leb-true _ _ (and_elim (leb 2 (size c)) (leb (size c) 1000000) w).1)
-    (λ w. absurd (let q : 0 ≡ 21 = sym e ∙ rw (s, w) in omega arith)))
-    (λ s. absurd (let q : 0 ≡ 20 = sym e ∙ rw s in omega arith))
+    pub test_admits : {A : Type 0} (refuse : ℕ → A) (x : A) → admit P c refuse x ≡ x
+    unfolding admit
+    test_admits refuse x = rw (passed.0, passed.1)
+
+    pub test_sized : length c ≡ P.states
+    unfolding is_sized
+    test_sized = eqb-true _ _ passed.0
+
+    pub test-size : (2 ≤ size c) × (size c ≤ 1000000)
+    unfolding is_within
+    test-size = let w = and_elim (leb 2 (size c)) (leb (size c) 1000000) passed.1 in (leb-true _ _ w.0, leb-true _ _ w.1)
+
+  module _ (r : Refusal) (e : Err r ≡ counts_test P.states c) where
+    -- The error of a test.
+    abbrev error : Result (Unit {0}) Refusal → Refusal
+    error (Ok a) = r
+    error (Err q) = q
+
+    pub test_not_admitted : admitted P c ≡ false
+    unfolding counts_test admitted is_sized
+    test_not_admitted =
+        by_test (eqb (length c) P.states)
+        (λ s. by_test (is_within c) (λ w. absurd (subst IsOk (sym (rw (s, w) at e)) tt)) (λ w. rw (s, w)))
+        (λ s. rw s)
+
+    pub test_refuses : {A : Type 0} (g : Refusal → A) (x : A) → admit P c (λ n. g (refusal n 0)) x ≡ g r
+    unfolding counts_test admit is_sized
+    test_refuses g x =
+        by_test (eqb (length c) P.states)
+        (λ s. by_test (is_within c) (λ w. absurd (subst IsOk (sym (rw (s, w) at e)) tt)) (λ w. rw (s, w) (ap g (ap error (sym (rw (s, w) at e))))))
+        (λ s. rw s (ap g (ap error (sym (rw s at e)))))
 
 -- ---- Pairs and enabled
 
@@ -220,23 +248,25 @@ module _ (P : Protocol) (L : Layers) (c : List ℕ) where
     pub first : (k : ℕ) → k < best → enabled P c k ≡ true → low < L.of k
 
   -- What a scan of the rules below r has found: the first one of the lowest layer, or nothing yet.
-  pub record Best (r best low : ℕ) : Type 0 where
-    pub within : r ≤ P.rules
+  pub record Best (r : ℕ) (best : Option ℕ) (low : ℕ) : Type 0 where
     pub least : (k : ℕ) → k < r → enabled P c k ≡ true → low ≤ L.of k
-    pub found : ((best ≡ P.rules) × (low ≡ L.count + 1)) ⊎ First best low
+    pub found : MatchOption best (low ≡ L.count + 1) (λ b. First b low)
 
-  pub best_of_none : Best 0 P.rules (L.count + 1)
-  best_of_none = record { within = omega arith; least = λ k l e. absurd (omega arith); found = inl (refl, refl) }
+  pub best_of_none : Best 0 None (L.count + 1)
+  best_of_none = record { least = λ k l e. absurd (omega arith); found = refl }
 
-  low-most : (r best low : ℕ) → Best r best low → low ≤ L.count + 1
-  low-most r best low h = ⊎_elim (λ f. omega (arith, f.1)) (λ f. omega (arith, f.most)) h.found
+  low-most : (r : ℕ) (best : Option ℕ) (low : ℕ) → Best r best low → low ≤ L.count + 1
+  low-most r best low h = go best h.found
+    where
+      go : (best : Option ℕ) → MatchOption best (low ≡ L.count + 1) (λ b. First b low) → low ≤ L.count + 1
+      go (Some b) f = omega (arith, f.most)
+      go None f = omega (arith, f)
 
   -- One rule more, of layer k: it does not count where its layer is not lower or where it is not enabled, and is the best
   -- otherwise.
-  module _ (r best low k : ℕ) (h : Best r best low) (l : r < P.rules) (v : Value 256 (L.of r) k) where
+  module _ (r : ℕ) (best : Option ℕ) (low k : ℕ) (h : Best r best low) (l : r < P.rules) (v : Value 256 (L.of r) k) where
     best_same : (enabled P c r ≡ true → low ≤ L.of r) → Best (r + 1) best low
     best_same d = record {
-      within = omega arith;
       least = λ j m. below_suc (λ i. enabled P c i ≡ true → low ≤ L.of i) r d h.least j (omega arith);
       found = h.found;
     }
@@ -258,13 +288,12 @@ module _ (P : Protocol) (L : Layers) (c : List ℕ) where
         first = λ j m w. omega (arith, h.least j m w);
       }
 
-      pub best_lower : k < low → t ≡ true → Best (r + 1) r k
+      pub best_lower : k < low → t ≡ true → Best (r + 1) (Some r) k
       best_lower d u = record {
-        within = omega arith;
         least = λ j m.
             below_suc (λ i. enabled P c i ≡ true → k ≤ L.of i) r
             (λ _. omega (arith, v.is)) (λ i n w. omega (arith, h.least i n w)) j (omega arith);
-        found = inr (first_lower_lem d u);
+        found = first_lower_lem d u;
       }
 
   not_in : (k r : ℕ) → (enabled P c r ≡ true → L.of r ≡ k → ⊥) → enabled_in P L c k r ≡ false
@@ -294,18 +323,37 @@ module _ (P : Protocol) (L : Layers) (c : List ℕ) where
         sym (ap (λ k. first_below P.rules (enabled_in P L c k)) lowest_is
         ∙ first_is P.rules (enabled_in P L c low) best (omega (arith, f.rule)) (λ k l. not_in low k (λ e q. omega (arith, f.first k l e))) (λ _. on))
 
-  -- An enabled rule of layer 0, lower than every layer so far, is chosen; at the end of the scan, the best is.
-  pub chosen_bottom : (r best low k : ℕ) → Best r best low → r < P.rules → Value 256 (L.of r) k → (t : Bool) → t ≡ enabled P c r
-      → k < low → t ≡ true → k ≡ 0 → r ≡ chosen P L c
-  chosen_bottom r best low k h l v t e d u z = chosen-first r k (first_lower_lem r best low k h l v t e d u) (λ j m w. omega arith)
+  -- The chosen rule as an Option, and back.
+  some_chosen : (r : ℕ) → r < P.rules → r ≡ chosen P L c → Some r ≡ chosen_of P L c
+  unfolding chosen_of
+  some_chosen r l e = rw (← e, lt-ltb r P.rules l)
 
-  pub chosen_best : (r best low : ℕ) → Best r best low → P.rules ≤ r → best ≡ chosen P L c
-  chosen_best r best low h end =
-      let least : (k : ℕ) → k < P.rules → enabled P c k ≡ true → low ≤ L.of k = λ k l. h.least k (omega arith) in
-      ⊎_elim
-      (λ f. f.0 ∙ sym (chosen_none (λ k l e. omega (arith, least k l e, f.1))))
-      (λ f. chosen-first best low f least)
-      h.found
+  none_chosen : chosen P L c ≡ P.rules → None ≡ chosen_of P L c
+  unfolding chosen_of
+  none_chosen e = rw (le-ltb (chosen P L c) P.rules (omega arith))
+
+  pub chosen-tells : (o : Option ℕ) → o ≡ chosen_of P L c → MatchOption o (chosen P L c ≡ P.rules) (λ r. (r < P.rules) × (r ≡ chosen P L c))
+  unfolding chosen_of chosen
+  chosen-tells o e =
+      by_test (ltb (chosen P L c) P.rules)
+      (λ t. rw (e, t) (ltb-true _ _ t, refl))
+      (λ t. rw (e, t) (let most = first_le P.rules (enabled_in P L c (lowest P L c)) in omega (arith, ltb-false (chosen P L c) P.rules t)))
+
+  -- An enabled rule of layer 0, lower than every layer so far, is chosen; at the end of the scan, the best is.
+  pub chosen_bottom : (r : ℕ) (best : Option ℕ) (low k : ℕ) → Best r best low → r < P.rules → Value 256 (L.of r) k → (t : Bool) → t ≡ enabled P c r
+      → k < low → t ≡ true → k ≡ 0 → Some r ≡ chosen_of P L c
+  chosen_bottom r best low k h l v t e d u z =
+      some_chosen r l (chosen-first r k (first_lower_lem r best low k h l v t e d u) (λ j m w. omega arith))
+
+  pub chosen_best : (r : ℕ) (best : Option ℕ) (low : ℕ) → Best r best low → P.rules ≤ r → best ≡ chosen_of P L c
+  chosen_best r best low h end = go best h.found
+    where
+      least : (k : ℕ) → k < P.rules → enabled P c k ≡ true → low ≤ L.of k
+      least k l = h.least k (omega arith)
+
+      go : (best : Option ℕ) → MatchOption best (low ≡ L.count + 1) (λ b. First b low) → best ≡ chosen_of P L c
+      go (Some b) f = some_chosen b f.rule (chosen-first b low f least)
+      go None f = none_chosen (chosen_none (λ k l e. omega (arith, least k l e, f)))
 
 pub ruleset choosing = (best_of_none, best_not_lower, best_not_enabled, best_lower, chosen_bottom, chosen_best, enabled_pair)
 

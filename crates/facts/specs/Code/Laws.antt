@@ -1,12 +1,16 @@
 -- Sets in the facts' words, marks, and the fresh facts. Assumes nothing.
-use Rattle.std.specs.Prelude.{◌≡◌, refl, Bool, true, not, cond, ◌&&◌, ◌||◌, List, [], ◌∷◌, ltb, length, get_or, replicate}
+use Rattle.std.specs.Prelude.{◌≡◌, refl, Bool, true, not, ◌&&◌, ◌||◌, List, [], ◌∷◌, map, ltb, leb, length, get_or, set, replicate}
 use Rattle.std.proofs.Math.Path.{sym, ap, fun_ext}
-use Rattle.std.proofs.Common.{◌∙◌, arith}
-use Rattle.std.proofs.Math.Bool.{false, and-true, and-false, and_comm, and_assoc, or_comm, or-false}
-use Prim.Native.Nat.{ℕ, zero, suc, ◌/◌, ◌%◌, ◌≤◌, ◌<◌}
+use Rattle.std.proofs.Common.{◌∙◌, ap₂, arith}
+use Rattle.std.proofs.Math.Bool.{false, and-true, and-false, or_comm, or-false}
+use Prim.Native.Nat.{ℕ, zero, suc, ◌+◌, ◌-◌, ◌/◌, ◌%◌, ◌≤◌, ◌<◌}
 use Rattle.std.proofs.Math.Dec.{eqb}
 use Rattle.std.proofs.Math.ListN.{get_or-eq_default}
-use borrow.Author.Tests.{lt-ltb, le-ltb, ltb-true, eq-eqb, ne_eqb, eqb-true, eqb-false}
+use Rattle.std.proofs.lemmas.List.{get_or-set_other}
+use Rattle.std.proofs.lemmas.Grind.{get_or-set_at}
+use Rattle.std.proofs.Math.Logic.{by_cases}
+use Rattle.std.proofs.Math.Decide.{dec_lt}
+use borrow.Author.Tests.{lt-ltb, le-ltb, le-leb, lt-leb, leb-true, leb-false, ltb-true, eq-eqb, ne_eqb, eqb-true, eqb-false}
 use Rattle.theory.specs.Bool.{member}
 use Rattle.theory.proofs.Bool.Laws.{by_test}
 use Rattle.theory.specs.Protocol.{Protocol}
@@ -14,41 +18,57 @@ use Rattle.theory.specs.Facts as theory
 use Rattle.theory.specs.Facts.{extend, with_absent, with_present, with_at_most_one, with_unused, fresh}
 use Rattle.bits.specs.Code.{single_of, full_of, among_of, union_of, without_of, in_words}
 use Rattle.bits.specs.Code.Laws.{member_none, single-below}
-use Rattle.facts.specs.Code.{of_party, is_end, states_at, states_at_end, rules_of_run, facts_of, fresh_of, joined_if, only_if}
+use Rattle.facts.specs.Code.{word_of, has_word, sets_of, is_end, rules_of_run, facts_of, fresh_of, joined_if, only_if}
 
 -- ---- What the words say
 
-module _ (x y z : ℕ) where
-  pub of_start : (k : ℕ) → eqb k 0 ≡ true → x ≡ of_party x y z k
-  unfolding of_party
-  of_start k e = rw e
+-- Behind the last word there is none.
+pub word_past : (b : ℕ) (ws : List ℕ) (k : ℕ) → length ws ≤ k - b → word_of b ws k ≡ 0
+unfolding word_of
+word_past b ws k h = by_test (leb b k) (λ e. rw e (get_or-eq_default ws 0 h)) (λ e. rw e)
 
-  pub of_first : (k : ℕ) → eqb k 1 ≡ true → y ≡ of_party x y z k
-  unfolding of_party
-  of_first k e = rw (eqb-true k 1 e)
+-- The word at place i, where that is the place of party k; and where no place is.
+pub word_at : (b : ℕ) (ws : List ℕ) (k i : ℕ) → b + i ≡ k → get_or ws i 0 ≡ word_of b ws k
+unfolding word_of
+word_at b ws k i e = rw (le-leb b k (omega arith)) (ap (λ (y : ℕ). get_or ws y 0) (omega arith))
 
-  pub of_second : (k : ℕ) → eqb k 2 ≡ true → z ≡ of_party x y z k
-  unfolding of_party
-  of_second k e = rw (eqb-true k 2 e)
+pub word_none : (b n : ℕ) (ws : List ℕ) (k : ℕ) → length ws ≡ n → ((i : ℕ) → i < n → b + i ≡ k → ⊥) → 0 ≡ word_of b ws k
+unfolding word_of
+word_none b n ws k l h =
+    by_test (leb b k)
+    (λ e. rw e (sym (get_or-eq_default ws 0 (omega (arith, l, by_cases (dec_lt (k - b) n) (λ m. absurd (h (k - b) m (omega (arith, leb-true b k e)))) (λ g. g))))))
+    (λ e. rw e)
 
-  pub of_none : (k : ℕ) → eqb k 0 ≡ false → eqb k 1 ≡ false → eqb k 2 ≡ false → 0 ≡ of_party x y z k
-  unfolding of_party
-  of_none k e d f = rw (e, d, f)
+pub set-word : (b : ℕ) (ws : List ℕ) (k u : ℕ) → u ≡ word_of b ws k → member u ≡ sets_of b ws k
+unfolding sets_of
+set-word b ws k u e = ap member e
 
-pub ruleset words = (of_start, of_first, of_second, of_none)
-
-pub states-word : (w : List ℕ) (k u : ℕ) → u ≡ of_party (get_or w 0 0) (get_or w 1 0) (get_or w 2 0) k → member u ≡ states_at w k
-unfolding states_at
-states-word w k u e = ap member e
-
-pub end-word : (w : List ℕ) (k u : ℕ) → u ≡ of_party 0 (get_or w 0 0) (get_or w 1 0) k → member u ≡ states_at_end w k
-unfolding states_at_end
-end-word w k u e = ap member e
-
-pub run_words : (w : List ℕ) (k a b c d : ℕ) → a ≡ of_party 0 (get_or w 0 0) (get_or w 4 0) k → b ≡ of_party 0 (get_or w 1 0) (get_or w 5 0) k
-    → c ≡ of_party 0 (get_or w 2 0) (get_or w 6 0) k → d ≡ of_party 0 (get_or w 3 0) (get_or w 7 0) k → in_words (a ∷ b ∷ c ∷ d ∷ []) ≡ rules_of_run w k
+-- The four words of a run.
+pub run_words : (ws : List (List ℕ)) (k x y z w : ℕ) → length ws ≡ 4 → x ≡ word_of 1 (get_or ws 0 []) k → y ≡ word_of 1 (get_or ws 1 []) k
+    → z ≡ word_of 1 (get_or ws 2 []) k → w ≡ word_of 1 (get_or ws 3 []) k → in_words (x ∷ y ∷ z ∷ w ∷ []) ≡ rules_of_run ws k
 unfolding rules_of_run
-run_words w k a b c d ha hb hc hd = rw (ha, hb, hc, hd)
+run_words (a ∷ b ∷ c ∷ d ∷ []) k x y z w l hx hy hz hw = rw (hx, hy, hz, hw)
+run_words [] k x y z w l hx hy hz hw = absurd (omega (arith, l))
+run_words (a ∷ []) k x y z w l hx hy hz hw = absurd (omega (arith, l))
+run_words (a ∷ b ∷ []) k x y z w l hx hy hz hw = absurd (omega (arith, l))
+run_words (a ∷ b ∷ c ∷ []) k x y z w l hx hy hz hw = absurd (omega (arith, l))
+run_words (a ∷ b ∷ c ∷ d ∷ e ∷ ws) k x y z w l hx hy hz hw = absurd (omega (arith, l))
+
+-- The parties that have a word, of three and of the two ends.
+party_word : (k : ℕ) → has_word 0 3 k ≡ ltb k 3
+unfolding has_word
+party_word k = rw (le-leb 0 k (omega arith)) (ap (λ j. ltb j 3) (let e : k - 0 ≡ k = omega arith in e))
+
+end_word : (k : ℕ) → has_word 1 2 k ≡ is_end k
+unfolding has_word is_end
+end_word k =
+    by_cases (dec_lt 0 k)
+    (λ h.
+    ap₂ ◌&&◌ (le-leb 1 k h ∙ sym (lt-ltb 0 k h))
+    (by_cases (dec_lt k 3)
+    (λ l. lt-ltb (k - 1) 2 (omega arith) ∙ sym (lt-ltb k 3 l))
+    (λ l. le-ltb (k - 1) 2 (omega arith) ∙ sym (le-ltb k 3 (omega arith)))))
+    (λ h. ap (λ b. b && ltb (k - 1) 2) (lt-leb 1 k (omega arith)) ∙ ap (λ b. b && ltb k 3) (sym (le-ltb 0 k (omega arith))))
 
 -- ---- Sets marked under a test
 
@@ -63,67 +83,6 @@ pub within_ends : (k : ℕ) (A : ℕ → Bool) → 1 ≤ k → k < 3 → only_if
 unfolding is_end
 within_ends k A l h = only_if-passes (is_end k) A (rw (lt-ltb 0 k (omega arith), lt-ltb k 3 h))
 
--- What a mark at party k says at party b, and behind the last party.
-mark_at : (b k : ℕ) (a d : Bool) → b < 3 → d || (eqb k b && a) ≡ (eqb b k && (ltb k 3 && a)) || d
-mark_at b k a d h =
-    by_test (eqb k b)
-    (λ e. let q = eqb-true k b e in rw (e, eq-eqb b k (sym q), lt-ltb k 3 (omega arith)) (or_comm d a))
-    (λ e. rw (e, ne_eqb b k (λ q. eqb-false k b e (sym q))) (or-false d))
-
-mark_past : (j k : ℕ) (a : Bool) → 3 ≤ j → false ≡ (eqb j k && (ltb k 3 && a)) || false
-mark_past j k a h =
-    by_test (eqb j k)
-    (λ e. let q = eqb-true j k e in rw (e, le-ltb k 3 (omega arith)))
-    (λ e. rw e)
-
--- The word of party k is joined with the set A.
-module _ (x y z x' y' z' k : ℕ) (A : ℕ → Bool) where
-  party_extended : member x' ≡ joined_if (eqb k 0) (member x) A → member y' ≡ joined_if (eqb k 1) (member y) A
-      → member z' ≡ joined_if (eqb k 2) (member z) A
-      → (λ (j : ℕ). member (of_party x' y' z' j)) ≡ extend (λ (j : ℕ). member (of_party x y z j)) k (only_if (ltb k 3) A)
-  unfolding of_party extend only_if joined_if
-  party_extended hx hy hz = fun_ext (λ j. fun_ext (at j))
-    where
-      at : (j s : ℕ) → member (of_party x' y' z' j) s ≡ extend (λ (i : ℕ). member (of_party x y z i)) k (only_if (ltb k 3) A) j s
-      at zero s = ap (λ (f : ℕ → Bool). f s) hx ∙ mark_at 0 k (A s) (member x s) (omega arith)
-      at (suc zero) s = ap (λ (f : ℕ → Bool). f s) hy ∙ mark_at 1 k (A s) (member y s) (omega arith)
-      at (suc (suc zero)) s = ap (λ (f : ℕ → Bool). f s) hz ∙ mark_at 2 k (A s) (member z s) (omega arith)
-      at (suc (suc (suc j))) s =
-          let n = suc (suc (suc j)) in
-          rw (ne_eqb n 0 (λ q. omega arith), ne_eqb n 1 (λ q. omega arith), ne_eqb n 2 (λ q. omega arith), member_none s)
-          (mark_past n k (A s) (omega arith))
-
--- The same where only ends have sets: at the start none is marked.
-module _ (y z y' z' k : ℕ) (A : ℕ → Bool) where
-  end_extended : member y' ≡ joined_if (eqb k 1) (member y) A → member z' ≡ joined_if (eqb k 2) (member z) A
-      → (λ (j : ℕ). member (of_party 0 y' z' j)) ≡ extend (λ (j : ℕ). member (of_party 0 y z j)) k (only_if (is_end k) A)
-  unfolding only_if is_end joined_if
-  end_extended hy hz =
-      party_extended 0 y z 0 y' z' k (only_if (ltb 0 k) A)
-      (fun_ext (λ s. sym (ap (λ (b : Bool). member 0 s || b) (not_start s) ∙ or-false (member 0 s))))
-      (hy ∙ fun_ext (λ s. ap (λ (b : Bool). member y s || b) (at_end 1 s (omega arith))))
-      (hz ∙ fun_ext (λ s. ap (λ (b : Bool). member z s || b) (at_end 2 s (omega arith))))
-      ∙ ap (extend (λ (j : ℕ). member (of_party 0 y z j)) k)
-      (fun_ext (λ s. sym (and_assoc (ltb k 3) (ltb 0 k) (A s)) ∙ ap (λ (b : Bool). b && A s) (and_comm (ltb k 3) (ltb 0 k))))
-    where
-      not_start : (s : ℕ) → eqb k 0 && (ltb 0 k && A s) ≡ false
-      not_start s = by_test (eqb k 0) (λ e. let q = eqb-true k 0 e in rw (e, le-ltb 0 k (omega arith))) (λ e. rw e)
-
-      at_end : (b s : ℕ) → 1 ≤ b → eqb k b && A s ≡ eqb k b && (ltb 0 k && A s)
-      at_end b s h = by_test (eqb k b) (λ e. let q = eqb-true k b e in rw (e, lt-ltb 0 k (omega arith))) (λ e. rw e)
-
-pub party_marked : (w : List ℕ) (x y z k u : ℕ) → member x ≡ joined_if (eqb k 0) (member (get_or w 0 0)) (member u)
-    → member y ≡ joined_if (eqb k 1) (member (get_or w 1 0)) (member u) → member z ≡ joined_if (eqb k 2) (member (get_or w 2 0)) (member u)
-    → states_at (x ∷ y ∷ z ∷ []) ≡ extend (states_at w) k (only_if (ltb k 3) (member u))
-unfolding states_at
-party_marked w x y z k u = party_extended (get_or w 0 0) (get_or w 1 0) (get_or w 2 0) x y z k (member u)
-
-pub end_marked : (w : List ℕ) (y z k u : ℕ) → member y ≡ joined_if (eqb k 1) (member (get_or w 0 0)) (member u)
-    → member z ≡ joined_if (eqb k 2) (member (get_or w 1 0)) (member u)
-    → states_at_end (y ∷ z ∷ []) ≡ extend (states_at_end w) k (only_if (is_end k) (member u))
-unfolding states_at_end
-end_marked w y z k u = end_extended (get_or w 0 0) (get_or w 1 0) y z k (member u)
-
 pub joined_passed : (a b w : ℕ) (t : Bool) → t ≡ true → member w ≡ union_of a b → member w ≡ joined_if t (member a) (member b)
 unfolding joined_if
 joined_passed a b w t e d = d ∙ rw e
@@ -132,38 +91,120 @@ pub joined_failed : (a b : ℕ) (t : Bool) → t ≡ false → member a ≡ join
 unfolding joined_if
 joined_failed a b t e = fun_ext (λ i. sym (rw e (or-false (member a i))))
 
--- The words of w are joined with those of u, four for each run.
-pub run_marked : (w u : List ℕ) (k a b c d e f g h : ℕ) → length u ≡ 4
-    → member a ≡ joined_if (eqb k 1) (member (get_or w 0 0)) (member (get_or u 0 0)) → member b ≡ joined_if (eqb k 1) (member (get_or w 1 0)) (member (get_or u 1 0))
-    → member c ≡ joined_if (eqb k 1) (member (get_or w 2 0)) (member (get_or u 2 0)) → member d ≡ joined_if (eqb k 1) (member (get_or w 3 0)) (member (get_or u 3 0))
-    → member e ≡ joined_if (eqb k 2) (member (get_or w 4 0)) (member (get_or u 0 0)) → member f ≡ joined_if (eqb k 2) (member (get_or w 5 0)) (member (get_or u 1 0))
-    → member g ≡ joined_if (eqb k 2) (member (get_or w 6 0)) (member (get_or u 2 0)) → member h ≡ joined_if (eqb k 2) (member (get_or w 7 0)) (member (get_or u 3 0))
-    → rules_of_run (a ∷ b ∷ c ∷ d ∷ e ∷ f ∷ g ∷ h ∷ []) ≡ extend (rules_of_run w) k (only_if (is_end k) (in_words u))
-unfolding rules_of_run in_words extend only_if
-run_marked w u k a b c d e f g h l ha hb hc hd he hf hg hh = fun_ext (λ j. fun_ext (λ r. at j (r / 64) (r % 64)))
+-- The words vs are the words ws, where that of party k, if it is at a place below i, is joined with the set A.
+abbrev pub MarkedBelow : ℕ → ℕ → ℕ → List ℕ → List ℕ → (ℕ → Bool) → Type 0
+MarkedBelow b k i ws vs A = (j : ℕ) → member (get_or vs j 0) ≡ joined_if (ltb j i && eqb (b + j) k) (member (get_or ws j 0)) A
+
+joined_off : (M A : ℕ → Bool) → joined_if false M A ≡ M
+unfolding joined_if
+joined_off M A = fun_ext (λ s. or-false (M s))
+
+module _ (b k : ℕ) (ws : List ℕ) (A : ℕ → Bool) where
+  pub marked_none : MarkedBelow b k 0 ws ws A
+  marked_none j =
+      sym
+      (ap (λ (t : Bool). joined_if (t && eqb (b + j) k) (member (get_or ws j 0)) A) (le-ltb j 0 (omega arith))
+      ∙ joined_off (member (get_or ws j 0)) A)
+
+  module _ (i x : ℕ) (vs : List ℕ) (l : i < length vs) (m : MarkedBelow b k i ws vs A)
+      (e : member x ≡ joined_if (eqb (b + i) k) (member (get_or vs i 0)) A) where
+    before : member (get_or vs i 0) ≡ member (get_or ws i 0)
+    before =
+        m i
+        ∙ ap (λ (t : Bool). joined_if (t && eqb (b + i) k) (member (get_or ws i 0)) A) (le-ltb i i (omega arith))
+        ∙ joined_off (member (get_or ws i 0)) A
+
+    here : (j : ℕ) → j ≡ i → member (get_or (set vs i x) j 0) ≡ joined_if (ltb j (i + 1) && eqb (b + j) k) (member (get_or ws j 0)) A
+    here j f =
+        ap member (get_or-set_at vs i j x 0 f l)
+        ∙ e
+        ∙ ap (λ (M : ℕ → Bool). joined_if (eqb (b + i) k) M A) before
+        ∙ ap (λ (y : ℕ). joined_if (eqb (b + y) k) (member (get_or ws y 0)) A) (sym f)
+        ∙ sym (ap (λ (t : Bool). joined_if (t && eqb (b + j) k) (member (get_or ws j 0)) A) (lt-ltb j (i + 1) (omega arith)))
+
+    other : (j : ℕ) → (j ≡ i → ⊥) → member (get_or (set vs i x) j 0) ≡ joined_if (ltb j (i + 1) && eqb (b + j) k) (member (get_or ws j 0)) A
+    other j f =
+        ap member (get_or-set_other vs i j x 0 f)
+        ∙ m j
+        ∙ ap (λ (t : Bool). joined_if (t && eqb (b + j) k) (member (get_or ws j 0)) A)
+        (by_cases (dec_lt j i)
+        (λ h. lt-ltb j i h ∙ sym (lt-ltb j (i + 1) (omega arith)))
+        (λ h. le-ltb j i (omega arith) ∙ sym (le-ltb j (i + 1) (omega (arith, f)))))
+
+    pub marked_more : MarkedBelow b k (i + 1) ws (set vs i x) A
+    marked_more j = by_test (eqb j i) (λ q. here j (eqb-true j i q)) (λ q. other j (eqb-false j i q))
+
+  -- The turns are all made.
+  pub marked_done : (n i : ℕ) (vs : List ℕ) → i ≤ n → n ≤ i → MarkedBelow b k i ws vs A
+      → sets_of b vs ≡ extend (sets_of b ws) k (only_if (has_word b n k) A)
+  unfolding sets_of word_of has_word extend only_if joined_if
+  marked_done n i vs m o h = fun_ext (λ j. fun_ext (at j))
+    where
+      turn : (j s : ℕ) → member (get_or vs (j - b) 0) s ≡ member (get_or ws (j - b) 0) s || ((ltb (j - b) i && eqb (b + (j - b)) k) && A s)
+      turn j s = ap (λ (f : ℕ → Bool). f s) (h (j - b))
+
+      inside : (j s : ℕ) → b ≤ j → j ≡ k
+          → member (get_or vs (j - b) 0) s ≡ (true && ((true && ltb (k - b) n) && A s)) || member (get_or ws (j - b) 0) s
+      inside j s l f =
+          turn j s
+          ∙ ap (λ (t : Bool). member (get_or ws (j - b) 0) s || ((ltb (j - b) i && t) && A s)) (eq-eqb (b + (j - b)) k (omega arith))
+          ∙ ap (λ (t : Bool). member (get_or ws (j - b) 0) s || (t && A s)) (and-true (ltb (j - b) i))
+          ∙ ap₂ (λ (y z : ℕ). member (get_or ws (j - b) 0) s || (ltb (y - b) z && A s)) f (let d : i ≡ n = omega arith in d)
+          ∙ or_comm (member (get_or ws (j - b) 0) s) (ltb (k - b) n && A s)
+
+      outside : (j s : ℕ) → b ≤ j → (j ≡ k → ⊥) → member (get_or vs (j - b) 0) s ≡ member (get_or ws (j - b) 0) s
+      outside j s l f =
+          turn j s
+          ∙ ap (λ (t : Bool). member (get_or ws (j - b) 0) s || ((ltb (j - b) i && t) && A s)) (ne_eqb (b + (j - b)) k (λ d. f (omega arith)))
+          ∙ ap (λ (t : Bool). member (get_or ws (j - b) 0) s || (t && A s)) (and-false (ltb (j - b) i))
+          ∙ or-false (member (get_or ws (j - b) 0) s)
+
+      at : (j s : ℕ) → member (word_of b vs j) s ≡ (eqb j k && ((leb b k && ltb (k - b) n) && A s)) || member (word_of b ws j) s
+      at j s =
+          by_test (leb b j)
+          (λ e.
+          let l = leb-true b j e in
+          by_test (eqb j k)
+          (λ q. let f = eqb-true j k q in rw (e, q, le-leb b k (omega arith)) (inside j s l f))
+          (λ q. rw (e, q) (outside j s l (eqb-false j k q))))
+          (λ e.
+          by_test (eqb j k)
+          (λ q. let f = eqb-true j k q in rw (e, q, lt-leb b k (omega (arith, leb-false b j e))))
+          (λ q. rw (e, q)))
+
+pub party_marked : (F G : ℕ → ℕ → Bool) (k : ℕ) (A : ℕ → Bool) → G ≡ extend F k (only_if (has_word 0 3 k) A) → G ≡ extend F k (only_if (ltb k 3) A)
+party_marked F G k A h = h ∙ ap (λ (t : Bool). extend F k (only_if t A)) (party_word k)
+
+pub end_marked : (F G : ℕ → ℕ → Bool) (k : ℕ) (A : ℕ → Bool) → G ≡ extend F k (only_if (has_word 1 2 k) A) → G ≡ extend F k (only_if (is_end k) A)
+end_marked F G k A h = h ∙ ap (λ (t : Bool). extend F k (only_if t A)) (end_word k)
+
+-- The words of each run are joined with those of u, four for each.
+pub run_marked : (ws : List (List ℕ)) (u : List ℕ) (k : ℕ) (a b c d : List ℕ) → length ws ≡ 4 → length u ≡ 4
+    → sets_of 1 a ≡ extend (sets_of 1 (get_or ws 0 [])) k (only_if (has_word 1 2 k) (member (get_or u 0 0)))
+    → sets_of 1 b ≡ extend (sets_of 1 (get_or ws 1 [])) k (only_if (has_word 1 2 k) (member (get_or u 1 0)))
+    → sets_of 1 c ≡ extend (sets_of 1 (get_or ws 2 [])) k (only_if (has_word 1 2 k) (member (get_or u 2 0)))
+    → sets_of 1 d ≡ extend (sets_of 1 (get_or ws 3 [])) k (only_if (has_word 1 2 k) (member (get_or u 3 0)))
+    → rules_of_run (a ∷ b ∷ c ∷ d ∷ []) ≡ extend (rules_of_run ws) k (only_if (is_end k) (in_words u))
+unfolding rules_of_run in_words extend only_if sets_of
+run_marked [] u k a b c d l m ha hb hc hd = absurd (omega (arith, l))
+run_marked (w ∷ []) u k a b c d l m ha hb hc hd = absurd (omega (arith, l))
+run_marked (w ∷ x ∷ []) u k a b c d l m ha hb hc hd = absurd (omega (arith, l))
+run_marked (w ∷ x ∷ y ∷ []) u k a b c d l m ha hb hc hd = absurd (omega (arith, l))
+run_marked (w ∷ x ∷ y ∷ z ∷ v ∷ ws) u k a b c d l m ha hb hc hd = absurd (omega (arith, l))
+run_marked (w ∷ x ∷ y ∷ z ∷ []) u k a b c d l m ha hb hc hd = fun_ext (λ j. fun_ext (λ r. at j (r / 64) (r % 64)))
   where
-    joined : (x y x' y' v j i : ℕ) → member x' ≡ joined_if (eqb k 1) (member x) (member v) → member y' ≡ joined_if (eqb k 2) (member y) (member v)
-        → member (of_party 0 x' y' j) i ≡ (eqb j k && (is_end k && member v i)) || member (of_party 0 x y j) i
-    joined x y x' y' v j i hx hy =
-        ap (λ (m : ℕ → ℕ → Bool). m j i) (end_extended x y x' y' k (member v) hx hy)
+    joined : (v v' : List ℕ) (q j i : ℕ) → sets_of 1 v' ≡ extend (sets_of 1 v) k (only_if (has_word 1 2 k) (member (get_or u q 0)))
+        → member (word_of 1 v' j) i ≡ (eqb j k && (is_end k && member (get_or u q 0) i)) || member (word_of 1 v j) i
+    joined v v' q j i h = ap (λ (m : ℕ → ℕ → Bool). m j i) (end_marked (sets_of 1 v) (sets_of 1 v') k (member (get_or u q 0)) h)
 
     at : (j q i : ℕ)
-        → member (get_or (of_party 0 a e j ∷ of_party 0 b f j ∷ of_party 0 c g j ∷ of_party 0 d h j ∷ []) q 0) i
+        → member (get_or (word_of 1 a j ∷ word_of 1 b j ∷ word_of 1 c j ∷ word_of 1 d j ∷ []) q 0) i
         ≡ (eqb j k && (is_end k && member (get_or u q 0) i))
-        || member
-        (get_or
-        (of_party 0 (get_or w 0 0) (get_or w 4 0) j
-        ∷ of_party 0 (get_or w 1 0) (get_or w 5 0) j
-        ∷ of_party 0 (get_or w 2 0) (get_or w 6 0) j
-        ∷ of_party 0 (get_or w 3 0) (get_or w 7 0) j
-        ∷ [])
-        q
-        0)
-        i
-    at j zero i = joined (get_or w 0 0) (get_or w 4 0) a e (get_or u 0 0) j i ha he
-    at j (suc zero) i = joined (get_or w 1 0) (get_or w 5 0) b f (get_or u 1 0) j i hb hf
-    at j (suc (suc zero)) i = joined (get_or w 2 0) (get_or w 6 0) c g (get_or u 2 0) j i hc hg
-    at j (suc (suc (suc zero))) i = joined (get_or w 3 0) (get_or w 7 0) d h (get_or u 3 0) j i hd hh
+        || member (get_or (word_of 1 w j ∷ word_of 1 x j ∷ word_of 1 y j ∷ word_of 1 z j ∷ []) q 0) i
+    at j zero i = joined w a 0 j i ha
+    at j (suc zero) i = joined x b 1 j i hb
+    at j (suc (suc zero)) i = joined y c 2 j i hc
+    at j (suc (suc (suc zero))) i = joined z d 3 j i hd
     at j (suc (suc (suc (suc q)))) i =
         let m : length u ≤ suc (suc (suc (suc q))) = omega arith in
         rw (get_or-eq_default u 0 m, member_none i, and-false (is_end k), and-false (eqb j k))
@@ -204,17 +245,23 @@ within-states k s u h l e = within_party k (member u) h ∙ e ∙ single-below s
 
 -- ---- The fresh facts
 
-start_alone : (w : ℕ) → states_at (w ∷ 0 ∷ 0 ∷ []) ≡ (λ k s. eqb k 0 && member w s)
-unfolding of_party states_at
-start_alone w =
-    fun_ext
-    (λ k.
-    fun_ext
-    (λ s. by_test (eqb k 0) (λ e. rw e) (λ e. rw (e, alike (eqb k 2) 0, alike (eqb k 1) 0) (member_none s))))
+start_alone : (w : ℕ) → sets_of 0 (w ∷ 0 ∷ 0 ∷ []) ≡ (λ k s. eqb k 0 && member w s)
+unfolding sets_of word_of
+start_alone w = fun_ext (λ k. fun_ext (at k))
   where
-    alike : (b : Bool) (n : ℕ) → cond b n n ≡ n
-    alike true n = refl
-    alike false n = refl
+    at : (k s : ℕ) → sets_of 0 (w ∷ 0 ∷ 0 ∷ []) k s ≡ eqb k 0 && member w s
+    at zero s = refl
+    at (suc zero) s = member_none s
+    at (suc (suc zero)) s = member_none s
+    at (suc (suc (suc k))) s =
+        let n = suc (suc (suc k)) in rw (word_past 0 (w ∷ 0 ∷ 0 ∷ []) n (omega arith), ne_eqb n 0 (λ q. omega arith)) (member_none s)
+
+none_at : (k : ℕ) → word_of 1 (replicate 2 0) k ≡ 0
+unfolding word_of
+none_at zero = refl
+none_at (suc zero) = refl
+none_at (suc (suc zero)) = refl
+none_at (suc (suc (suc k))) = word_past 1 (replicate 2 0) (suc (suc (suc k))) (omega arith)
 
 -- The words of a fresh set of facts: u has the states, x the inputs, y the states with fixed agents, v the states that are no
 -- inputs, w those of v that have no fixed agents.
@@ -224,26 +271,23 @@ pub fresh_words : (n u x y v w : ℕ) → member u ≡ full_of n → member v �
       absent = w ∷ 0 ∷ 0 ∷ [];
       present = y ∷ 0 ∷ 0 ∷ [];
       at_most_one = replicate 2 0;
-      unused = replicate 8 0;
+      unused = replicate 4 (replicate 2 0);
     })
     ≡ fresh_of n (member x) (member y)
-unfolding fresh_of states_at states_at_end rules_of_run in_words
-fresh_words n u x y v w d e f = rw (start_alone w, start_alone y, none_at, none_in, f, e, d)
+unfolding fresh_of sets_of rules_of_run in_words
+fresh_words n u x y v w d e f = rw (start_alone w, start_alone y, no_state, no_rule, f, e, d)
   where
-    none : (k i : ℕ) → member (of_party 0 0 0 k) i ≡ false
-    none k i = ap (λ (f : ℕ → ℕ → Bool). f k i) (start_alone 0) ∙ rw (member_none i) (and-false (eqb k 0))
+    no_state : sets_of 1 (replicate 2 0) ≡ (λ _ _. false)
+    no_state = fun_ext (λ k. fun_ext (λ s. rw (none_at k) (member_none s)))
 
-    none_at : states_at_end (replicate 2 0) ≡ (λ _ _. false)
-    none_at = fun_ext (λ k. fun_ext (none k))
-
-    none_in : rules_of_run (replicate 8 0) ≡ (λ _ _. false)
-    none_in = fun_ext (λ k. fun_ext (λ r. at k (r / 64) (r % 64)))
+    no_rule : rules_of_run (replicate 4 (replicate 2 0)) ≡ (λ _ _. false)
+    no_rule = fun_ext (λ k. fun_ext (λ r. at k (r / 64) (r % 64)))
       where
-        at : (k q i : ℕ) → member (get_or (of_party 0 0 0 k ∷ of_party 0 0 0 k ∷ of_party 0 0 0 k ∷ of_party 0 0 0 k ∷ []) q 0) i ≡ false
-        at k zero i = none k i
-        at k (suc zero) i = none k i
-        at k (suc (suc zero)) i = none k i
-        at k (suc (suc (suc zero))) i = none k i
+        at : (k q i : ℕ) → member (get_or (map (λ w. word_of 1 w k) (replicate 4 (replicate 2 0))) q 0) i ≡ false
+        at k zero i = rw (none_at k) (member_none i)
+        at k (suc zero) i = rw (none_at k) (member_none i)
+        at k (suc (suc zero)) i = rw (none_at k) (member_none i)
+        at k (suc (suc (suc zero))) i = rw (none_at k) (member_none i)
         at k (suc (suc (suc (suc q)))) i = member_none i
 
 -- By the words of a protocol's inputs and of its states with fixed agents they are the protocol's.

@@ -1,13 +1,7 @@
--- `format::flag_set` meets its contract: the set has the states below `i` with the flag.
+-- `format::flag_set` meets its contract: the test computes whether a state has the flag.
 use Rattle.std.proofs.Common.{rules}
-use Rattle.bits.specs.Code.Laws.{gathering}
+use Rattle.bits.specs.Code.Laws.{gathered}
 use Rattle.format.proofs.flag_set.Goals as goal
 
-pub loop-i-init : goal.loop-i-init
-loop-i-init c = search (gathering, rules)
-
-pub loop-i-preserved : goal.loop-i-preserved
-loop-i-preserved c = search (gathering, rules)
-
 pub returns : goal.returns
-returns c = search (gathering, rules)
+returns c = gathered _ _ _ _ c.among.ensures (search rules) (λ s t l g. search rules)

@@ -1,7 +1,7 @@
--- `format::read32` meets its contract: four bytes at once, or from its halves.
+-- `format::read32` meets its contract: the number has the bytes from k on.
 use Rattle.std.proofs.Common.{rules}
-use Rattle.format.specs.Bytes.Laws.{four32}
+use Rattle.format.specs.Bytes.Laws.{number32}
 use Rattle.format.proofs.read32.Goals as goal
 
 pub returns : goal.returns
-returns c = search (four32, rules)
+returns c = search (number32, rules)

@@ -1,30 +1,28 @@
 -- Laws for the functions of the ladder. Assumes nothing.
-use Rattle.std.specs.Prelude.{◌≡◌, refl, Bool, true, false, ◌&&◌, ◌||◌, List, leb, eqb}
+use Rattle.std.specs.Prelude.{◌≡◌, refl, Bool, true, false, ◌&&◌, ◌||◌, List, leb, eqb, Option, None}
 use Rattle.std.proofs.Math.Path.{sym, ap, fun_ext}
-use Rattle.std.proofs.Common.{◌∙◌, ⊎_elim, add-one}
+use Rattle.std.proofs.Common.{◌∙◌, ap₂, ⊎_elim, add-one}
 use Rattle.std.proofs.Math.Bool.{not, and-true, and-false}
 use Rattle.std.proofs.Math.Logic.{by_cases}
 use Prim.Native.Nat.{ℕ, zero, suc, ◌+◌, ◌-◌, ◌≤◌, ◌<◌, min, max}
 use Rattle.std.proofs.Math.Decide.{dec_lt}
 use native.Mathlib.Omega.{arith}
-use borrow.Author.Tests.{leb-true, leb-false, eqb-true, eqb-false, lt-ltb, le-ltb, ltb-false, le-leb, lt-leb, eq-eqb, ne_eqb, not-true, not-false}
+use borrow.Author.Tests.{leb-true, leb-false, eqb-true, eqb-false, lt-ltb, le-ltb, ltb-false, le-leb, lt-leb, eq-eqb, ne_eqb, not-true}
 use Rattle.std.proofs.Math.Dec.{ltb}
-use mir.Val.{bool_byte}
 use Rattle.theory.specs.Bool.{member, imp, bit}
-use Rattle.theory.proofs.Bool.Laws.{by_test, not_both, is_false, and_elim, and_fails, imp_intro}
-use Rattle.theory.specs.Below.{Clear, all_below, any_below, sum_below, least, greatest}
-use Rattle.theory.proofs.Below.Scan.{clear_more}
-use Rattle.theory.proofs.Below.Laws.{all_elim, all_intro, any_elim, any_intro}
+use Rattle.theory.proofs.Bool.Laws.{by_test, not_both, is_false, and_elim, and_fails}
+use Rattle.theory.specs.Below.{all_below, any_below, sum_below, least, greatest}
+use Rattle.theory.proofs.Below.Laws.{all_elim, all_intro, all_same, any_same}
 use Rattle.theory.specs.Protocol.{Protocol}
 use Rattle.theory.specs.Ladder.{Layers, lowers_at, is_lower, pre_sequence, fits, handover_at, spread, spreads}
 use Rattle.bits.specs.Code.{single_of, union_of}
-use Rattle.format.specs.Code.{Value}
+use Rattle.bits.specs.Code.Laws.{member_none}
 use Rattle.format.specs.Format.{rule_p, rule_q, rule_layer, rule_of, protocol_of, layers_of}
 use Rattle.format.specs.declared.Sizes.{Sizes}
 use Rattle.format.specs.declared.Rule.{Rule}
 use Rattle.shape.specs.Code.{SoundRules}
 use Rattle.ladder.specs.declared.PreSequence.{PreSequence}
-use Rattle.ladder.specs.Code.{fitting, uncovered, in_pair, beyond_of, pre_sequence_of, held_of, covers_of, fits_in, first_lower, states_in, SoundPair}
+use Rattle.ladder.specs.Code.{in_pair, beyond_of, pre_sequence_of, held_of, covers_of, fits_in, covered_in, is_there, single_in, states_in, SoundPair}
 
 -- ---- Lowering at rule r, of layer l
 
@@ -36,22 +34,8 @@ module _ (P : Protocol) (L : Layers) (w : ℕ → ℕ → ℕ) where
 
 -- ---- Pairs of states
 
-pub pair_fits : (s t : Bool) → Value 3 (bit s + bit t) (bool_byte s + bool_byte t)
-pair_fits true true = record { is = refl; small = omega arith }
-pair_fits true false = record { is = refl; small = omega arith }
-pair_fits false true = record { is = refl; small = omega arith }
-pair_fits false false = record { is = refl; small = omega arith }
-
-module _ (n a b x k m : ℕ) (e : m ≡ in_pair a b x) where
-  pub beyond_short : m < k → x ≡ beyond_of n a b x k
-  beyond_short l = rw (lt-ltb (in_pair a b x) k (omega arith))
-
-  pub beyond_enough : k ≤ m → n ≡ beyond_of n a b x k
-  beyond_enough l = rw (le-ltb (in_pair a b x) k (omega arith))
-
--- The number of states stands for no agent.
-beyond_at : (n a b y k x : ℕ) → x < n → bit (eqb (beyond_of n a b y k) x) ≡ bit (ltb (in_pair a b y) k && eqb y x)
-beyond_at n a b y k x l = by_test (ltb (in_pair a b y) k) (λ e. rw e) (λ e. rw (e, ne_eqb n x (λ d. omega arith)))
+beyond_at : (a b y k x : ℕ) → bit (is_there (beyond_of a b y k) x) ≡ bit (ltb (in_pair a b y) k && eqb y x)
+beyond_at a b y k x = by_test (ltb (in_pair a b y) k) (λ e. rw e) (λ e. rw e)
 
 one_short : (m : ℕ) → bit (ltb m 1) ≡ 1 - m
 one_short m = by_cases (dec_lt m 1) (λ h. rw (lt-ltb m 1 h) (omega arith)) (λ h. rw (le-ltb m 1 (omega arith)) (omega arith))
@@ -59,12 +43,12 @@ one_short m = by_cases (dec_lt m 1) (λ h. rw (lt-ltb m 1 h) (omega arith)) (λ 
 two_short : (m : ℕ) → bit (ltb m 1) + bit (ltb m 2) ≡ 2 - m
 two_short m = by_cases (dec_lt m 2) (λ h. rw (lt-ltb m 2 h) (omega (arith, one_short m))) (λ h. rw (le-ltb m 2 (omega arith)) (omega (arith, one_short m)))
 
-module _ (n a b y k x : ℕ) (l : x < n) where
-  beyond_same : y ≡ x → (h : ℕ) → k ≡ h → bit (eqb (beyond_of n a b y k) x) ≡ bit (ltb (in_pair a b x) h)
-  beyond_same e h d = beyond_at n a b y k x l ∙ rw (eq-eqb y x e, and-true, e, d)
+module _ (a b y k x : ℕ) where
+  beyond_same : y ≡ x → (h : ℕ) → k ≡ h → bit (is_there (beyond_of a b y k) x) ≡ bit (ltb (in_pair a b x) h)
+  beyond_same e h d = beyond_at a b y k x ∙ rw (eq-eqb y x e, and-true, e, d)
 
-  beyond_other : (y ≡ x → ⊥) → bit (eqb (beyond_of n a b y k) x) ≡ 0
-  beyond_other d = beyond_at n a b y k x l ∙ rw (ne_eqb y x d, and-false)
+  beyond_other : (y ≡ x → ⊥) → bit (is_there (beyond_of a b y k) x) ≡ 0
+  beyond_other d = beyond_at a b y k x ∙ rw (ne_eqb y x d, and-false)
 
 by_state : {X : Type 0} (a x : ℕ) → (a ≡ x → X) → ((a ≡ x → ⊥) → X) → X
 by_state a x f g = by_test (eqb a x) (λ e. f (eqb-true a x e)) (λ e. g (eqb-false a x e))
@@ -76,16 +60,16 @@ bit_other : (a x : ℕ) → (a ≡ x → ⊥) → bit (eqb a x) ≡ 0
 bit_other a x d = ap bit (ne_eqb a x d)
 
 -- What the pair y, w has beyond the pair a, b, at each state.
-module _ (n a b y w x : ℕ) (l : x < n) where
-  left_over : in_pair (beyond_of n a b y 1) (beyond_of n a b w (in_pair y w w)) x ≡ in_pair y w x - in_pair a b x
+module _ (a b y w x : ℕ) where
+  left_over : bit (is_there (beyond_of a b y 1) x) + bit (is_there (beyond_of a b w (in_pair y w w)) x) ≡ in_pair y w x - in_pair a b x
   left_over =
       by_state y x
       (λ e. by_state w x
       (λ d. omega (
         arith,
         two_short (in_pair a b x),
-        beyond_same n a b y 1 x l e 1 refl,
-        beyond_same n a b w (in_pair y w w) x l d 2
+        beyond_same a b y 1 x e 1 refl,
+        beyond_same a b w (in_pair y w w) x d 2
             (twice (e ∙ sym d)),
         bit_same y x e,
         bit_same w x d,
@@ -93,9 +77,9 @@ module _ (n a b y w x : ℕ) (l : x < n) where
       (λ d. omega (
         arith,
         one_short (in_pair a b x),
-        beyond_same n a b y 1 x l e 1 refl,
-        beyond_other n a b w
-            (in_pair y w w) x l d,
+        beyond_same a b y 1 x e 1 refl,
+        beyond_other a b w
+            (in_pair y w w) x d,
         bit_same y x e,
         bit_other w x d,
       )))
@@ -103,13 +87,13 @@ module _ (n a b y w x : ℕ) (l : x < n) where
       (λ d. omega (
         arith,
         one_short (in_pair a b x),
-        beyond_other n a b y 1 x l e,
-        beyond_same n a b w (in_pair y w w) x l d 1
+        beyond_other a b y 1 x e,
+        beyond_same a b w (in_pair y w w) x d 1
             (once (λ f. e (f ∙ d))),
         bit_other y x e,
         bit_same w x d,
       ))
-      (λ d. omega (arith, beyond_other n a b y 1 x l e, beyond_other n a b w (in_pair y w w) x l d, bit_other y x e, bit_other w x d)))
+      (λ d. omega (arith, beyond_other a b y 1 x e, beyond_other a b w (in_pair y w w) x d, bit_other y x e, bit_other w x d)))
     where
       twice : y ≡ w → in_pair y w w ≡ 2
       twice e = omega (arith, bit_same y w e, bit_same w w refl)
@@ -158,13 +142,16 @@ one_of true false false false true = refl
 one_of true false false false false = refl
 
 pub states_are : (j : PreSequence) (a b c d e f w : ℕ) → member a ≡ single_of j.first → member b ≡ single_of j.second → member c ≡ union_of a b
-    → member d ≡ single_of j.third → member e ≡ single_of j.fourth → member f ≡ union_of d e → member w ≡ union_of c f → member w ≡ states_in j
+    → member d ≡ single_in j.third → member e ≡ single_in j.fourth → member f ≡ union_of d e → member w ≡ union_of c f → member w ≡ states_in j
 unfolding states_in
 states_are j a b c d e f w ea eb ec ed ee ef ew =
     fun_ext
     (λ x.
     ap (λ (k : ℕ → Bool). k x) ew
-    ∙ rw (ec, ef, ea, eb, ed, ee) (one_of (ltb x 64) (eqb j.first x) (eqb j.second x) (eqb j.third x) (eqb j.fourth x)))
+    ∙ rw (ec, ef, ea, eb, ed, ee) (one_of (ltb x 64) (eqb j.first x) (eqb j.second x) (is_there j.third x) (is_there j.fourth x)))
+
+pub none_single : (a : Option ℕ) → a ≡ None → member 0 ≡ single_in a
+none_single a e = fun_ext (λ x. member_none x ∙ rw (e, and-false))
 
 -- Of a state that is not in the set, j has no agent.
 missing : (j : PreSequence) (w x : ℕ) → member w ≡ states_in j → x < 64 → member w x ≡ false → held_of j x ≡ 0
@@ -208,6 +195,20 @@ module _ (rules : List ℕ) (l : ℕ) (j : PreSequence) (v m : ℕ) (e : m ≡ r
     unfolding fits_in
     fits_not_first k = rw (lt-ltb (rule_layer rules v) l (omega arith), ← d, ← f, sym g ∙ k)
 
+-- The branches of covered: rule u has been read as b.
+module _ (rules : List ℕ) (n : ℕ) (a b : Rule) (u : ℕ) (eb : b ≡ rule_of rules u) where
+  pub covered_higher : a.layer ≤ b.layer → true ≡ covered_in rules n a u
+  unfolding covered_in
+  covered_higher l = rw (le-ltb (rule_layer rules u) a.layer (omega (arith, ap (λ (r : Rule). r.layer) eb)))
+
+  pub covered_lower : (j : PreSequence) (t : Bool) → b.layer < a.layer → j ≡ pre_sequence_of a b → t ≡ any_below n (fits_in rules a.layer j)
+      → t ≡ covered_in rules n a u
+  unfolding covered_in
+  covered_lower j t l ej e =
+      rw
+      (lt-ltb (rule_layer rules u) a.layer (omega (arith, ap (λ (r : Rule). r.layer) eb)))
+      (e ∙ ap (λ k. any_below n (fits_in rules a.layer k)) (ej ∙ ap (pre_sequence_of a) eb))
+
 -- What sound rules give for one of them.
 pub sound_pair : (z : Sizes) (rules : List ℕ) (v : ℕ) → SoundRules z rules → v < z.rules → SoundPair rules v
 sound_pair z rules v sound l = record {
@@ -218,60 +219,8 @@ sound_pair z rules v sound l = record {
 
 -- ---- Handover at rule s
 
-module _ (P : Protocol) (L : Layers) (s u : ℕ) where
-  not_lower : L.of s ≤ L.of u → uncovered P L s u ≡ false
-  unfolding uncovered is_lower
-  not_lower l = rw (le-ltb (L.of u) (L.of s) l)
-
-  covered_by : (v : ℕ) → v < P.rules → fitting P L s u v ≡ true → uncovered P L s u ≡ false
-  unfolding uncovered
-  covered_by v l e = ap not (imp_intro (is_lower L u s) _ (λ _. any_intro P.rules (fitting P L s u) v l e))
-
-  covered_by_none : L.of u < L.of s → Clear (fitting P L s u) P.rules → uncovered P L s u ≡ true
-  unfolding uncovered is_lower
-  covered_by_none l none =
-      rw (
-        lt-ltb (L.of u) (L.of s) l,
-        is_false (any_below P.rules (fitting P L s u)) (λ e. let f = any_elim _ _ e in not_both f.2 (none f.0 f.1)),
-      )
-
-module _ (P : Protocol) (L : Layers) (s : ℕ) where
-  -- All rules below u, which are all, are covered.
-  pub covered_passes : (u : ℕ) → Clear (uncovered P L s) u → P.rules ≤ u → not (handover_at P L s) ≡ false
-  unfolding handover_at uncovered fitting
-  covered_passes u none l = ap not (all_intro P.rules _ (λ k m. not-false _ (none k (omega arith))))
-
-  pub uncovered_fails : (u : ℕ) → u < P.rules → uncovered P L s u ≡ true → not (handover_at P L s) ≡ true
-  unfolding handover_at uncovered fitting
-  uncovered_fails u l e =
-      ap not
-      (is_false (handover_at P L s)
-      (λ a. not_both (all_elim P.rules (λ k. imp (is_lower L k s) (any_below P.rules (fitting P L s k))) a u l) (not-true _ e)))
-
--- Where the search for u begins.
-pub begins_behind : (l n : ℕ) → l ≡ 0 → n ≡ first_lower l n
-unfolding first_lower
-begins_behind l n e = rw (eq-eqb l 0 e)
-
-pub begins_first : (l n : ℕ) → 0 < l → 0 ≡ first_lower l n
-unfolding first_lower
-begins_first l n h = rw (ne_eqb l 0 (λ e. omega arith))
-
-pub begins_inside : (l n u : ℕ) → u ≡ first_lower l n → u ≤ n
-begins_inside l n u e = by_cases (dec_lt 0 l) (λ h. omega (arith, begins_first l n h)) (λ h. omega (arith, begins_behind l n (omega arith)))
-
--- Rule s has been read as a. The rules before the first u are covered: there are some only where s is of layer 0.
-pub skipped_covered : (z : Sizes) (states rules : List ℕ) (s : ℕ) (a : Rule) (n u : ℕ) → a ≡ rule_of rules s → u ≡ first_lower a.layer n
-    → Clear (uncovered (protocol_of z states rules) (layers_of z rules) s) u
-skipped_covered z states rules s a n u ea e k l =
-    by_cases (dec_lt 0 a.layer)
-    (λ h. absurd (omega (arith, begins_first a.layer n h)))
-    (λ h. not_lower (protocol_of z states rules) (layers_of z rules) s k (omega (arith, ap (λ (r : Rule). r.layer) ea)))
-
-pub ruleset beginning = (begins_inside, skipped_covered)
-
--- The rules s and u have been read as a and b.
-module _ (z : Sizes) (states rules : List ℕ) (s u : ℕ) (a b : Rule) (ea : a ≡ rule_of rules s) (eb : b ≡ rule_of rules u) where
+-- Rule s has been read as a.
+module _ (z : Sizes) (states rules : List ℕ) (sound : SoundRules z rules) (s : ℕ) (a : Rule) (ea : a ≡ rule_of rules s) where
   abbrev P : Protocol
   P = protocol_of z states rules
 
@@ -281,36 +230,35 @@ module _ (z : Sizes) (states rules : List ℕ) (s u : ℕ) (a b : Rule) (ea : a 
   layer_s : a.layer ≡ rule_layer rules s
   layer_s = ap (λ (r : Rule). r.layer) ea
 
-  layer_u : b.layer ≡ rule_layer rules u
-  layer_u = ap (λ (r : Rule). r.layer) eb
+  fits_same : (u v : ℕ) → v < z.rules → fits_in rules a.layer (pre_sequence_of a (rule_of rules u)) v ≡ is_lower L v s && fits P s u v
+  unfolding fits_in is_lower fits
+  fits_same u v l =
+      rw (
+        ea,
+        pair_inside z.states
+            (held_of (pre_sequence_of (rule_of rules s) (rule_of rules u)))
+            (pre_sequence P s u)
+            (λ x h. omega (arith, left_over (rule_of rules s).p2 (rule_of rules s).q2 (rule_p rules u) (rule_q rules u) x))
+            (rule_p rules v) (rule_q rules v) (sound.p_lt v l) (sound.q_lt v l),
+      )
 
-  pub higher_covered : a.layer ≤ b.layer → uncovered P L s u ≡ false
-  higher_covered l = not_lower P L s u (omega (arith, layer_s, layer_u))
+  -- What each rule u is asked is what handover asks of it.
+  covered_same : (u : ℕ) → covered_in rules z.rules a u ≡ imp (is_lower L u s) (any_below P.rules (λ v. is_lower L v s && fits P s u v))
+  unfolding covered_in is_lower
+  covered_same u =
+      ap₂ imp
+      (ap (ltb (rule_layer rules u)) layer_s)
+      (any_same z.rules (fits_in rules a.layer (pre_sequence_of a (rule_of rules u))) (λ v. is_lower L v s && fits P s u v) (fits_same u))
 
-  pub none_covers : (v : ℕ) → b.layer < a.layer → Clear (fitting P L s u) v → v ≡ z.rules → uncovered P L s u ≡ true
-  none_covers v l none e = covered_by_none P L s u (omega (arith, layer_s, layer_u)) (λ k m. none k (omega arith))
+  pub all_covered : (t : Bool) → t ≡ all_below z.rules (covered_in rules z.rules a) → t ≡ handover_at P L s
+  unfolding handover_at
+  all_covered t e = e ∙ all_same z.rules _ _ (λ u l. covered_same u)
 
-  -- The test t of a turn of the search, at rule v.
-  module _ (sound : SoundRules z rules) (v : ℕ) (l : v < z.rules) (j : PreSequence) (t : Bool) (ej : j ≡ pre_sequence_of z.states a b)
-      (e : t ≡ fits_in rules a.layer j v) where
-    fits_in_lem : fits_in rules (rule_layer rules s) (pre_sequence_of z.states (rule_of rules s) (rule_of rules u)) v ≡ fitting P L s u v
-    unfolding fits_in fitting is_lower fits
-    fits_in_lem =
-        ap (λ (x : Bool). ltb (rule_layer rules v) (rule_layer rules s) && x)
-        (pair_inside z.states
-        (held_of (pre_sequence_of z.states (rule_of rules s) (rule_of rules u)))
-        (pre_sequence P s u)
-        (λ x h. omega (arith, left_over z.states (rule_of rules s).p2 (rule_of rules s).q2 (rule_p rules u) (rule_q rules u) x h))
-        (rule_p rules v) (rule_q rules v) (sound.p_lt v l) (sound.q_lt v l))
-
-    turn_fits : t ≡ fitting P L s u v
-    turn_fits = cc fits_in_lem
-
-    pub none_fits : Clear (fitting P L s u) v → t ≡ false → Clear (fitting P L s u) (v + 1)
-    none_fits none h = clear_more (fitting P L s u) v t none turn_fits h
-
-    pub one_fits : t ≡ true → uncovered P L s u ≡ false
-    one_fits h = covered_by P L s u v l (sym turn_fits ∙ h)
+  -- Below layer 0 there is none.
+  pub lowest_passes : a.layer ≡ 0 → true ≡ handover_at P L s
+  lowest_passes e =
+      all_covered true
+      (sym (all_intro z.rules (covered_in rules z.rules a) (λ u l. sym (covered_higher rules z.rules a (rule_of rules u) u refl (omega arith)))))
 
 -- ---- Spreads
 

@@ -1,17 +1,8 @@
--- No state below s has a weight outside the limits.
+-- The search tries the weight of each state.
+use Rattle.std.specs.Prelude.{refl}
 use Rattle.std.proofs.Common.{rules}
-use Rattle.theory.proofs.Below.Scan.{scan}
-use Rattle.leaf.specs.Leaf.Laws.{limits}
+use Rattle.theory.proofs.Below.Scan.{found_where}
 use Rattle.leaf.proofs.first_fault.Goals as goal
 
-pub loop-s-init : goal.loop-s-init
-loop-s-init c = search (scan, rules)
-
-pub returns-then-leaf_weight-gt20000 : goal.returns-then-leaf_weight-gt20000
-returns-then-leaf_weight-gt20000 c = search (limits, rules)
-
-pub loop-s-preserved : goal.loop-s-preserved
-loop-s-preserved c = search (limits, rules)
-
 pub returns : goal.returns
-returns c = search (scan, rules)
+returns c = found_where _ _ _ _ _ _ c.find.ensures.ran refl (λ x b q k. search rules)

@@ -1,16 +1,8 @@
--- No leaf below l is bad.
+-- The search tries each leaf.
+use Rattle.std.specs.Prelude.{refl}
 use Rattle.std.proofs.Common.{rules}
-use Rattle.theory.proofs.Below.Scan.{scan}
+use Rattle.theory.proofs.Below.Scan.{found_where}
 use Rattle.leaf.proofs.leaf_fault.Goals as goal
 
-pub loop-l-init : goal.loop-l-init
-loop-l-init c = search (scan, rules)
-
-pub returns-then-leaf_bad : goal.returns-then-leaf_bad
-returns-then-leaf_bad c = search (scan, rules)
-
-pub loop-l-preserved : goal.loop-l-preserved
-loop-l-preserved c = search (scan, rules)
-
 pub returns : goal.returns
-returns c = search (scan, rules)
+returns c = found_where _ _ _ _ _ _ c.find.ensures.ran refl (λ x b q k. search rules)

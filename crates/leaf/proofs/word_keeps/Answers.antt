@@ -1,19 +1,8 @@
--- The rules from r on and below that of x are unused or keep the weight.
+-- Each rule from r on and below n is tried.
+use Rattle.std.specs.Prelude.{refl}
 use Rattle.std.proofs.Common.{rules}
-use Rattle.leaf.specs.Code.Laws.{changing}
+use Rattle.leaf.specs.Code.Laws.{all_found}
 use Rattle.leaf.proofs.word_keeps.Goals as goal
 
-pub loop-x-init : goal.loop-x-init
-loop-x-init c = search (changing, rules)
-
-pub returns-then-not-relates : goal.returns-then-not-relates
-returns-then-not-relates c = search (changing, rules)
-
-pub loop-x-smaller : goal.loop-x-smaller
-loop-x-smaller c = search (changing, rules)
-
-pub loop-x-preserved : goal.loop-x-preserved
-loop-x-preserved c = search (changing, rules)
-
 pub returns : goal.returns
-returns c = search (changing, rules)
+returns c = all_found _ _ _ _ _ _ _ c.all.ensures.ran refl (λ x b q k. search rules)

@@ -1,22 +1,31 @@
 -- The parts of the leaf rule and of the remainder rule put together, over the bytes. Assumes nothing.
-use Rattle.std.specs.Prelude.{◌≡◌, refl, Bool, not, ◌&&◌, ◌||◌, List, ℕ, ◌+◌, ◌-◌, ◌*◌, ◌/◌, ◌%◌, ◌≤◌, ◌<◌, min, max, ltb, get_or}
-use Rattle.std.proofs.Math.Path.{sym, fun_ext}
-use Rattle.std.proofs.Common.{ap, ◌∙◌, add-one, Fits, below_none, below_more}
-use Rattle.std.proofs.Math.Bool.{true, false, and_comm, and-false}
+use Rattle.std.specs.Prelude.{◌≡◌, refl, Bool, not, ◌&&◌, ◌||◌, List, ℕ, zero, suc, ◌+◌, ◌-◌, ◌*◌, ◌%◌, ◌≤◌, ◌<◌, min, Option}
+use Rattle.std.specs.Int.{div_ceil}
+use Rattle.std.specs.Option.{MatchOption}
+use Rattle.std.specs.Iterator.{YieldsThen}
+use Rattle.std.specs.List.{FoldsTo, list_all, range_with_len}
+use Rattle.std.specs.Fn.{Called}
+use Rattle.std.specs.declared.ops.Range.{Range}
+use Rattle.std.proofs.iter.Yields.{nat_range_steps}
+use Rattle.std.proofs.lemmas.Iterator.{YieldsList-from_range}
+use Rattle.std.proofs.lemmas.Iterator.Search.{all_from_yields_List}
+use denote.Param.Members.{Mut}
+use Rattle.std.proofs.Math.Path.{sym}
+use Rattle.std.proofs.Common.{ap, ap₂, ◌∙◌, add-one, below_none, below_more}
+use Rattle.std.proofs.Math.Bool.{true, false, and-false}
 use Rattle.std.proofs.Math.Logic.{by_cases}
 use Rattle.std.proofs.Math.Decide.{dec_lt}
 use native.Mathlib.Omega.{arith}
 use Rattle.std.proofs.Math.Dec.{eqb}
-use Rattle.std.specs.Int.{w8}
-use borrow.Author.Tests.{lt-ltb, le-ltb, eqb-true, eq-eqb, ne_eqb, not-true, not-false}
+use borrow.Author.Tests.{lt-ltb, eqb-true, eq-eqb, not-true, not-false}
 use Rattle.theory.specs.Bool.{member}
-use Rattle.theory.proofs.Bool.Laws.{by_test, is_false, not_both, and_elim}
+use Rattle.theory.proofs.Bool.Laws.{is_false, not_both, and_elim}
 use Rattle.theory.specs.Below.{all_below, sum_below}
-use Rattle.theory.proofs.Below.Laws.{all_elim, all_intro, all_fails, first_is, first-lowest, first_passes}
+use Rattle.theory.proofs.Below.Laws.{all_elim, all_intro, all_fails, all_same}
 use Rattle.theory.specs.Facts.{Facts}
-use Rattle.bits.specs.Code.{without_of, in_word}
+use Rattle.bits.specs.Code.{in_word}
 use Rattle.format.specs.Code.{Value}
-use Rattle.format.specs.Format.{fixed_of, is_input, rule_of, protocol_of, end_weight, weights_of}
+use Rattle.format.specs.Format.{protocol_of, end_weight, weights_of}
 use Rattle.format.specs.declared.Rule.{Rule}
 use Rattle.format.specs.declared.Sizes.{Sizes}
 use Rattle.share.specs.Code.{closes_by, kept_by, relates_by, KnownAt, share_by, ShareIs}
@@ -25,71 +34,34 @@ use Rattle.share.specs.declared.Closing.{Closing}
 use Rattle.share.specs.declared.Fixed.{Fixed}
 use Rattle.share.specs.declared.Known.{Known}
 use Rattle.share.specs.declared.Share.{Share}
-use Rattle.leaf.specs.declared.Change.{Change}
-use Rattle.leaf.specs.Code.{RuleAt, weight_before, weight_after, keeps, change_at, changes, changes_at, first_from, next_change}
-use Rattle.leaf.specs.Code.{keeps_in, all_from, fixed_at, share_of}
+use Rattle.leaf.specs.Code.{RuleAt, weight_before, weight_after, keeps, keeps_in, all_from, fixed_at, share_of}
 
 -- ---- The rules
 
--- The change with these numbers.
-abbrev change : ℕ → ℕ → ℕ → Change
-change r a b = record { rule = r; before = a; after = b }
+-- Rule r is unused, t being whether it is, or it has the weights a and b.
+module _ (by : Closing) (u : ℕ) (z : Sizes) (rules leaves : List ℕ) (l e r : ℕ) (t : Bool) (h : t ≡ member u (r % 64)) where
+  abbrev kept_in : Bool
+  kept_in = keeps_in by u z rules leaves l e r
 
-pub rule_bytes : (rules : List ℕ) (r : ℕ) (x : Rule) → ((k : ℕ) → Fits w8 (get_or rules k 0)) → x ≡ rule_of rules r → RuleAt rules r x
-rule_bytes rules r x byte e =
-    record {
-      is = e;
-      p_lt = rw e (byte (5 * r)).fits;
-      q_lt = rw e (byte (5 * r + 1)).fits;
-      p'_lt = rw e (byte (5 * r + 2)).fits;
-      q'_lt = rw e (byte (5 * r + 3)).fits;
-    }
+  pub unused_keeps : t ≡ true → true ≡ kept_in
+  unfolding keeps_in
+  unused_keeps d = rw (← h, d)
 
--- A rule is unused, t being whether it is, or it has the weights a and b.
-module _ (u : ℕ) (z : Sizes) (rules leaves : List ℕ) (l e r : ℕ) (t : Bool) (h : t ≡ member u (r % 64)) where
-  pub change_unused : t ≡ true → change r 0 0 ≡ change_at u z rules leaves l e r
-  unfolding change_at
-  change_unused d = rw (← h, d)
+  module _ (x : Rule) (a b : ℕ) (d : t ≡ false) (k : RuleAt rules r x)
+      (va : Value 131072 (end_weight z leaves l e x.p + end_weight z leaves l e x.q) a)
+      (vb : Value 131072 (end_weight z leaves l e x.p2 + end_weight z leaves l e x.q2) b) where
+    pub used_keeps : (i j : ℕ) (v : Bool) → i ≡ b → j ≡ a → v ≡ relates_by by i j → v ≡ kept_in
+    unfolding keeps_in keeps weight_before weight_after
+    used_keeps i j v ei ej f = f ∙ rw (ei, ej, ← h, d, va.is, vb.is, k.is)
 
-  pub change_used : (x : Rule) (a b : ℕ) → t ≡ false → RuleAt rules r x
-      → Value 131072 (end_weight z leaves l e x.p + end_weight z leaves l e x.q) a
-      → Value 131072 (end_weight z leaves l e x.p2 + end_weight z leaves l e x.q2) b → change r a b ≡ change_at u z rules leaves l e r
-  unfolding change_at weight_before weight_after
-  change_used x a b d k va vb = rw (← h, d, va.is, vb.is, k.is)
+    -- Equal weights relate by both rules.
+    pub equal_keeps : a ≡ b → eqb a b ≡ kept_in
+    equal_keeps q = used_keeps b a (eqb a b) refl refl (eq-eqb a b q ∙ rw q (sym (relates_equal by b)))
 
--- The numbers from r on and below c fail the test f.
+pub ruleset rule_keeping = (unused_keeps, used_keeps, equal_keeps)
+
+-- The numbers from r on and below n pass the test f.
 module _ (f : ℕ → Bool) (r n : ℕ) where
-  pub record FailFrom (c : ℕ) : Type 0 where
-    pub from : r ≤ c
-    pub within : c ≤ max r n
-    pub fail : (k : ℕ) → r ≤ k → k < c → f k ≡ false
-
-  first_from_lem : (c : ℕ) → FailFrom c → (c < n → f c ≡ true) → c ≡ first_from r n f
-  unfolding first_from
-  first_from_lem c p hit =
-      let d : r + (c - r) ≡ c = omega (arith, p.from) in
-      sym
-      (ap (λ k. r + k)
-      (first_is (n - r) (λ k. f (r + k)) (c - r)
-      (omega (arith, p.from, p.within))
-      (λ k l. p.fail (r + k) (omega arith) (omega arith))
-      (λ l. rw d (hit (omega (arith, p.from)))))
-      ∙ d)
-
-  from_least : r ≤ first_from r n f
-  unfolding first_from
-  from_least = omega arith
-
-  from_fails : (k : ℕ) → r ≤ k → k < first_from r n f → f k ≡ false
-  unfolding first_from
-  from_fails k i l =
-      let d : r + (k - r) ≡ k = omega arith in
-      rw d at (first-lowest (n - r) (λ k. f (r + k)) (k - r) (omega arith))
-
-  from_hit : first_from r n f < n → f (first_from r n f) ≡ true
-  unfolding first_from
-  from_hit l = first_passes (n - r) (λ k. f (r + k)) (omega arith)
-
   all_from_lem : ((k : ℕ) → r ≤ k → k < n → f k ≡ true) → true ≡ all_from r n f
   unfolding all_from
   all_from_lem h = sym (all_intro (n - r) _ (λ k l. h (r + k) (omega arith) (omega arith)))
@@ -107,188 +79,78 @@ module _ (f : ℕ → Bool) (r n : ℕ) where
   unfolding all_from
   from_fault e = let w = all_fails (n - r) (λ k. f (r + k)) e in (r + w.0, omega arith, omega (arith, w.1), w.2)
 
--- The rules from r on and below c are unused or do not change the weight.
-module _ (u : ℕ) (z : Sizes) (rules leaves : List ℕ) (l e r n : ℕ) where
-  abbrev pub Unchanged : ℕ → Type 0
-  Unchanged c = FailFrom (changes_at u z rules leaves l e) r n c
+and_swap : (a b c : Bool) → a && (b && c) ≡ b && (a && c)
+and_swap true b c = refl
+and_swap false b c = sym (and-false b)
 
-  pub unchanged_none : Unchanged r
-  unchanged_none = record { from = omega arith; within = omega arith; fail = λ k l m. absurd (omega arith) }
+-- The numbers below n + 1 are 0 and the successors of those below n.
+all_front : (n : ℕ) (f : ℕ → Bool) → all_below (suc n) f ≡ f 0 && all_below n (λ k. f (suc k))
+unfolding all_below
+all_front zero f = refl
+all_front (suc n) f = ap (λ t. f (suc n) && t) (all_front n f) ∙ and_swap (f (suc n)) (f 0) (all_below n (λ k. f (suc k)))
 
-  pub unchanged_all : (c : ℕ) → Unchanged c → n ≤ c → change c 0 0 ≡ next_change u z rules leaves l e r n
-  unfolding next_change
-  unchanged_all c p h = rw (← first_from_lem (changes_at u z rules leaves l e) r n c p (λ m. absurd (omega arith)), le-ltb c n h)
+range_all : (n a : ℕ) (f : ℕ → Bool) → list_all f (range_with_len a n) ≡ all_below n (λ k. f (a + k))
+unfolding all_below
+range_all zero a f = refl
+range_all (suc n) a f =
+    ap₂ (λ s t. s && t) (ap f (let e : a ≡ a + 0 = omega arith in e))
+    (range_all n (a + 1) f ∙ all_same n (λ k. f (a + 1 + k)) (λ k. f (a + suc k)) (λ k l. ap f (omega arith)))
+    ∙ sym (all_front n (λ k. f (a + k)))
 
-  module _ (c : ℕ) (x : Change) (p : Unchanged c) (m : c < n) (w : x ≡ change_at u z rules leaves l e c) where
-    pub unchanged_more : x.before ≡ x.after → Unchanged (c + 1)
-    unchanged_more d =
-        let f : changes_at u z rules leaves l e c ≡ false = rw (← w, eq-eqb x.before x.after d) in
-        record {
-          from = omega (arith, p.from);
-          within = omega arith;
-          fail = λ k i h. below_more (λ j. r ≤ j → changes_at u z rules leaves l e j ≡ false) c (λ j m s. p.fail j s m) (λ _. f) k h i;
-        }
-
-    pub change-found : (x.before ≡ x.after → ⊥) → x ≡ next_change u z rules leaves l e r n
-    unfolding next_change
-    change-found d =
-        let f : changes_at u z rules leaves l e c ≡ true = rw (← w, ne_eqb x.before x.after d) in
-        rw (← first_from_lem (changes_at u z rules leaves l e) r n c p (λ _. f), lt-ltb c n m) w
-
-pub ruleset finding = (change_unused, change_used, unchanged_none, unchanged_all, unchanged_more, change-found)
-
-module _ (by : Closing) (u : ℕ) (z : Sizes) (rules leaves : List ℕ) (l e : ℕ) where
-  abbrev kept_at : ℕ → Bool
-  kept_at = keeps_in by u z rules leaves l e
-
-  -- A rule that is unused, or does not change the weight, keeps it; of one that changes it the weights say so.
-  even_keeps : (k : ℕ) → changes_at u z rules leaves l e k ≡ false → kept_at k ≡ true
-  unfolding change_at keeps_in keeps
-  even_keeps k h =
-      let after = weight_after z rules leaves l e k in
-      by_test (member u (k % 64))
-      (λ t. rw t)
-      (λ t.
-      let d : eqb (weight_before z rules leaves l e k) after ≡ true = not-false _ (rw t at h) in
-      rw t (ap (relates_by by after) (eqb-true _ _ d) ∙ relates_equal by after))
-
-  change-keeps : (x : Change) (k : ℕ) → x ≡ change_at u z rules leaves l e k → changes x ≡ true → kept_at k ≡ relates_by by x.after x.before
-  unfolding change_at keeps_in keeps
-  change-keeps x k h c =
-      by_test (member u (k % 64))
-      (λ t. let d : changes x ≡ false = rw (h, t) in absurd (not_both c d))
-      (λ t. rw (h, t))
-
-  -- The rules from r on and below that of x are unused or keep the weight; x is a change, if its rule is below n.
-  pub record Changed (r n : ℕ) (x : Change) : Type 0 where
-    pub from : r ≤ x.rule
-    pub kept : (k : ℕ) → r ≤ k → k < x.rule → kept_at k ≡ true
-    pub is : x.rule < n → x ≡ change_at u z rules leaves l e x.rule
-    pub differs : x.rule < n → changes x ≡ true
-
-  module _ (r n : ℕ) (x : Change) (h : x ≡ next_change u z rules leaves l e r n) where
-    abbrev first : ℕ
-    first = first_from r n (changes_at u z rules leaves l e)
-
-    rule_is : x.rule ≡ first
-    unfolding next_change change_at
-    rule_is =
-        by_test (ltb first n)
-        (λ t. by_test (member u (first % 64)) (λ s. rw (h, t, s)) (λ s. rw (h, t, s)))
-        (λ t. rw (h, t))
-
-    pub changed_first : Changed r n x
-    unfolding next_change
-    changed_first =
-        record {
-          from = rw rule_is (from_least (changes_at u z rules leaves l e) r n);
-          kept = λ k i j. even_keeps k (from_fails (changes_at u z rules leaves l e) r n k i (rw rule_is at j));
-          is = λ m. h ∙ rw (lt-ltb first n (rw rule_is at m), rule_is);
-          differs = λ m. rw (h, lt-ltb first n (rw rule_is at m)) (from_hit (changes_at u z rules leaves l e) r n (rw rule_is at m));
-        }
-
-  pub changed_none : (r n : ℕ) (x : Change) → Changed r n x → n ≤ x.rule → true ≡ all_from r n kept_at
-  changed_none r n x w h = all_from_lem kept_at r n (λ k i j. w.kept k i (omega arith))
-
-  module _ (r n : ℕ) (x : Change) (t : Bool) (w : Changed r n x) (h : x.rule < n) (f : t ≡ relates_by by x.after x.before) where
-    tried : kept_at x.rule ≡ t
-    tried = change-keeps x x.rule (w.is h) (w.differs h) ∙ sym f
-
-    pub changed_more : (y : Change) → not t ≡ false → y ≡ next_change u z rules leaves l e (x.rule + 1) n → Changed r n y
-    changed_more y g s =
-        let v = changed_first (x.rule + 1) n y s in
-        record {
-          from = omega (arith, w.from, v.from);
-          kept = λ k i j.
-              by_cases (dec_lt k (x.rule + 1))
-              (λ m. below_more (λ k. r ≤ k → kept_at k ≡ true) x.rule (λ k m i. w.kept k i m) (λ _. tried ∙ not-false t g) k m i)
-              (λ m. v.kept k (omega arith) j);
-          is = v.is;
-          differs = v.differs;
-        }
-
-    pub changed_fails : not t ≡ true → false ≡ all_from r n kept_at
-    changed_fails g = not_from kept_at r n x.rule w.from h (tried ∙ not-true t g)
-
-    pub changed_less : (y : Change) → y ≡ next_change u z rules leaves l e (x.rule + 1) n → n - y.rule < n - x.rule
-    changed_less y s = omega (arith, (changed_first (x.rule + 1) n y s).from)
-
-pub ruleset changing = (changed_first, changed_none, changed_more, changed_fails, changed_less)
+-- `all` over the numbers from r on and below n, with a closure that computes f.
+pub all_found : {F : Type 0} {g : Mut F (ℕ × Unit {0}) Bool} (r n : ℕ) (f : ℕ → Bool) (s u : Range ℕ) (p : F) (b : Bool)
+    → (xs : List ℕ) × (o : Option ℕ) × (j : F) × YieldsThen nat_range_steps s xs o u × FoldsTo (λ p x q. Called g p (x, tt) true q) p xs j
+    × MatchOption o (b ≡ true) (λ x. (b ≡ false) × ((h : F) × Called g j (x, tt) false h))
+    → s ≡ record { start = r; end = n } → ((x : ℕ) (c : Bool) (q : F) → Called g p (x, tt) c q → (q ≡ p) × (c ≡ f x)) → b ≡ all_from r n f
+unfolding all_from
+all_found r n f s u p b ran e calls = all_from_yields_List f u p b ran (YieldsList-from_range r n (n - r) e refl) calls ∙ range_all (n - r) r f
 
 module _ (by : Closing) (z : Sizes) (rules leaves : List ℕ) (l e : ℕ) (A : ℕ → Bool) where
   -- Rule r is in A, or keeps the weight of end e + 1.
   abbrev passes : ℕ → Bool
   passes r = A r || keeps by z rules leaves l e r
 
-  -- The rules below r pass.
-  pub record KeptBelow (r : ℕ) : Type 0 where
-    pub most : r ≤ z.rules
-    pub below : (k : ℕ) → k < r → passes k ≡ true
+  -- The rules of the words below q pass.
+  abbrev pub KeptBelow : ℕ → Type 0
+  KeptBelow q = (k : ℕ) → k < min z.rules (64 * q) → passes k ≡ true
 
   pub kept_none : KeptBelow 0
-  kept_none = record { most = omega arith; below = below_none (λ k. passes k ≡ true) }
+  kept_none k l = absurd (omega arith)
 
   -- The set A is that of the unused rules, U.
   abbrev all_kept : List ℕ → (ℕ → Bool) → Bool
   all_kept states U = kept_by (protocol_of z states rules) by U (end_weight z leaves l e)
 
-  pub kept-all : (states : List ℕ) (U : ℕ → Bool) (r : ℕ) → A ≡ U → KeptBelow r → z.rules ≤ r → true ≡ all_kept states U
+  pub kept-all : (states : List ℕ) (U : ℕ → Bool) (q : ℕ) → A ≡ U → KeptBelow q → div_ceil z.rules 64 ≤ q → true ≡ all_kept states U
   unfolding keeps weight_before weight_after
-  kept-all states U r q w h =
-      rw (← q, kept_is (protocol_of z states rules) by A (end_weight z leaves l e)) (sym (all_intro z.rules _ (λ j m. w.below j (omega arith))))
+  kept-all states U q p w h =
+      rw (← p, kept_is (protocol_of z states rules) by A (end_weight z leaves l e)) (sym (all_intro z.rules _ (λ j m. w j (omega arith))))
 
-  -- Word q has the rules from r on and below n, u being those in A; t says whether they pass.
-  module _ (q u r n : ℕ) (t : Bool) (w : KeptBelow r) (m : r < z.rules) (d : q ≡ r / 64) (hu : member u ≡ in_word q A)
-      (hn : n ≡ min z.rules (64 * q + 64)) (s : t ≡ all_from r n (keeps_in by u z rules leaves l e)) where
-    in_word_lem : (k : ℕ) → r ≤ k → k < n → keeps_in by u z rules leaves l e k ≡ passes k
+  -- Word q has the rules from 64 q on and below n, u being those in A; t says whether they pass.
+  module _ (q u n : ℕ) (t : Bool) (w : KeptBelow q) (m : q < div_ceil z.rules 64) (hu : member u ≡ in_word q A)
+      (hn : n ≡ 64 * q + min (z.rules - 64 * q) 64) (s : t ≡ all_from (64 * q) n (keeps_in by u z rules leaves l e)) where
+    in_word_lem : (k : ℕ) → 64 * q ≤ k → k < n → keeps_in by u z rules leaves l e k ≡ passes k
     unfolding in_word keeps_in
     in_word_lem k i j =
-        let g : 64 * q + k % 64 ≡ k = omega (arith, d, hn) in
+        let g : 64 * q + k % 64 ≡ k = omega (arith, hn) in
         rw (hu, lt-ltb (k % 64) 64 (omega arith), g)
 
-    pub kept_word : not t ≡ false → KeptBelow n
-    kept_word g =
-        record {
-          most = omega (arith, hn);
-          below = λ k i.
-              by_cases (dec_lt k r)
-              (w.below k)
-              (λ j. sym (in_word_lem k (omega arith) i) ∙ from_all _ r n (sym s ∙ not-false t g) k (omega arith) i);
-        }
-
-    pub word_less : z.rules - n < z.rules - r
-    word_less = omega (arith, d, hn)
+    pub kept_word : not t ≡ false → KeptBelow (q + 1)
+    kept_word g k i =
+        by_cases (dec_lt k (64 * q))
+        (λ j. w k (omega arith))
+        (λ j. sym (in_word_lem k (omega arith) (omega (arith, hn))) ∙ from_all _ (64 * q) n (sym s ∙ not-false t g) k (omega arith) (omega (arith, hn)))
 
     pub kept_broken : (states : List ℕ) (U : ℕ → Bool) → A ≡ U → not t ≡ true → false ≡ all_kept states U
     unfolding keeps weight_before weight_after
     kept_broken states U p g =
-        let f = from_fault _ r n (sym s ∙ not-true t g) in
+        let f = from_fault _ (64 * q) n (sym s ∙ not-true t g) in
         rw (← p, kept_is (protocol_of z states rules) by A (end_weight z leaves l e))
-        (sym (is_false _ (λ q. not_both (all_elim z.rules _ q f.0 (omega (arith, f.2, hn))) (sym (in_word_lem f.0 f.1 f.2) ∙ f.3))))
+        (sym (is_false _ (λ d. not_both (all_elim z.rules _ d f.0 (omega (arith, f.2, hn))) (sym (in_word_lem f.0 f.1 f.2) ∙ f.3))))
 
-pub ruleset keeping = (kept_none, kept-all, kept_word, word_less, kept_broken)
+pub ruleset keeping = (kept_none, kept-all, kept_word, kept_broken)
 
 -- ---- One state
-
--- The words of w, from the sets that the facts have. The set p has those that are present.
-pub known_is : (F : Facts) (k : ℕ) (w : Known) (p : ℕ) → member w.absent ≡ F.absent k → member p ≡ F.present k
-    → member w.present ≡ without_of p w.absent → member w.at_most_one ≡ F.at_most_one k → KnownAt F k w
-known_is F k w p ha hp h ho =
-    record {
-      absent = ha;
-      present = fun_ext (λ s. rw (h, hp, ha) (and_comm (F.present k s) (not (F.absent k s))));
-      at_most_one = ho;
-    }
-
--- n is the number of fixed agents of state s; t says whether it is an input.
-module _ (z : Sizes) (states : List ℕ) (s n : ℕ) (e : n ≡ fixed_of z states s) where
-  pub fixed_none : n ≤ 0 → record { agents = 0; only = false } ≡ fixed_at z states s
-  fixed_none l = let z : n ≡ 0 = omega arith in rw (← e, z)
-
-  pub fixed_some : (t : Bool) → 0 < n → t ≡ is_input z states s → record { agents = n; only = not t } ≡ fixed_at z states s
-  fixed_some t l h = rw (← e, lt-ltb 0 n l, h)
-
-pub ruleset fixing = (fixed_none, fixed_some)
 
 -- Both weights are 0, or the share is that of the two weights.
 module _ (by : Closing) (z : Sizes) (states leaves : List ℕ) (l : ℕ) (a b c : Known) (s x y : ℕ) (vx : Value 65536 (end_weight z leaves l 0 s) x)

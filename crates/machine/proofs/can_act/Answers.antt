@@ -1,17 +1,15 @@
 -- `machine::can_act` meets its contract: a refused shape is passed back.
-use Rattle.machine.specs.Calls.{pairs_of}
-use Rattle.shape.proofs.ShapeLaws.{sound_then, sound_else}
-use Rattle.shape.proofs.SoundLaws.{sound_at}
 use Rattle.std.proofs.Common.{rules}
+use Rattle.shape.proofs.ShapeLaws.{sound_else}
+use Rattle.format.specs.Format.{protocol_in}
+use Rattle.machine.specs.Calls.{pairs_answer, pairs_of}
+use Rattle.machine.specs.Code.Laws.{answers_sound}
 use Rattle.machine.proofs.can_act.Goals as goal
 
-pub returns-in_default : goal.returns-in_default
+pub returns-in-Ok : goal.returns-in-Ok
 unfolding pairs_of
-returns-in_default c = search (sound_else, rules)
+returns-in-Ok c = answers_sound c.args.docket.now (λ b h. pairs_answer (protocol_in b h) c.args.counts.now c.args.r) _ _ c.read_shape.ensures.shape c.in-Ok.docket c.in-Ok.is (search rules) c.can_act_in.ensures
 
-pub can_act_in-requires : goal.can_act_in-requires
-can_act_in-requires c = search (sound_at, rules)
-
-pub returns : goal.returns
+pub returns-in-Err : goal.returns-in-Err
 unfolding pairs_of
-returns c = search (sound_then, rules)
+returns-in-Err c = search (sound_else, rules)

@@ -1,17 +1,15 @@
 -- `machine::is_standstill` meets its contract: a refused shape is passed back.
-use Rattle.machine.specs.Calls.{terminal_of}
-use Rattle.shape.proofs.ShapeLaws.{sound_then, sound_else}
-use Rattle.shape.proofs.SoundLaws.{sound_at}
 use Rattle.std.proofs.Common.{rules}
+use Rattle.shape.proofs.ShapeLaws.{sound_else}
+use Rattle.format.specs.Format.{protocol_in}
+use Rattle.machine.specs.Calls.{terminal_answer, terminal_of}
+use Rattle.machine.specs.Code.Laws.{answers_sound}
 use Rattle.machine.proofs.is_standstill.Goals as goal
 
-pub returns-in_default : goal.returns-in_default
+pub returns-in-Ok : goal.returns-in-Ok
 unfolding terminal_of
-returns-in_default c = search (sound_else, rules)
+returns-in-Ok c = answers_sound c.args.docket.now (λ b h. terminal_answer (protocol_in b h) c.args.counts.now) _ _ c.read_shape.ensures.shape c.in-Ok.docket c.in-Ok.is (search rules) c.is_standstill_in.ensures
 
-pub is_standstill_in-requires : goal.is_standstill_in-requires
-is_standstill_in-requires c = search (sound_at, rules)
-
-pub returns : goal.returns
+pub returns-in-Err : goal.returns-in-Err
 unfolding terminal_of
-returns c = search (sound_then, rules)
+returns-in-Err c = search (sound_else, rules)

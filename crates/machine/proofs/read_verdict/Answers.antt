@@ -1,17 +1,15 @@
 -- `machine::read_verdict` meets its contract: a refused shape is passed back.
-use Rattle.machine.specs.Calls.{verdict_of}
-use Rattle.shape.proofs.ShapeLaws.{sound_then, sound_else}
-use Rattle.shape.proofs.SoundLaws.{sound_at}
 use Rattle.std.proofs.Common.{rules}
+use Rattle.shape.proofs.ShapeLaws.{sound_else}
+use Rattle.format.specs.Format.{protocol_in}
+use Rattle.machine.specs.Calls.{verdict_answer, verdict_of}
+use Rattle.machine.specs.Code.Laws.{answers_sound}
 use Rattle.machine.proofs.read_verdict.Goals as goal
 
-pub returns-in_default : goal.returns-in_default
+pub returns-in-Ok : goal.returns-in-Ok
 unfolding verdict_of
-returns-in_default c = search (sound_else, rules)
+returns-in-Ok c = answers_sound c.args.docket.now (λ b h. verdict_answer (protocol_in b h) c.args.counts.now) _ _ c.read_shape.ensures.shape c.in-Ok.docket c.in-Ok.is (search rules) c.verdict_in.ensures
 
-pub verdict_in-requires : goal.verdict_in-requires
-verdict_in-requires c = search (sound_at, rules)
-
-pub returns : goal.returns
+pub returns-in-Err : goal.returns-in-Err
 unfolding verdict_of
-returns c = search (sound_then, rules)
+returns-in-Err c = search (sound_else, rules)

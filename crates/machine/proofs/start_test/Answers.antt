@@ -1,17 +1,15 @@
 -- `machine::start_test` meets its contract: a refused shape is passed back.
-use Rattle.machine.specs.Calls.{start_of}
-use Rattle.shape.proofs.ShapeLaws.{sound_then, sound_else}
-use Rattle.shape.proofs.SoundLaws.{sound_at}
 use Rattle.std.proofs.Common.{rules}
+use Rattle.shape.proofs.ShapeLaws.{sound_else}
+use Rattle.format.specs.Format.{protocol_in}
+use Rattle.machine.specs.Calls.{start_answer, start_of}
+use Rattle.machine.specs.Code.Laws.{answers_sound}
 use Rattle.machine.proofs.start_test.Goals as goal
 
-pub returns-in_default : goal.returns-in_default
+pub returns-in-Ok : goal.returns-in-Ok
 unfolding start_of
-returns-in_default c = search (sound_else, rules)
+returns-in-Ok c = answers_sound c.args.docket.now (λ b h. start_answer (protocol_in b h) c.args.counts.now) _ _ c.read_shape.ensures.shape c.in-Ok.docket c.in-Ok.is (search rules) c.start_in.ensures
 
-pub start_in-requires : goal.start_in-requires
-start_in-requires c = search (sound_at, rules)
-
-pub returns : goal.returns
+pub returns-in-Err : goal.returns-in-Err
 unfolding start_of
-returns c = search (sound_then, rules)
+returns-in-Err c = search (sound_else, rules)

@@ -1,14 +1,10 @@
 -- `machine::step` meets its contract: a refused shape is passed back.
-use Rattle.shape.proofs.SoundLaws.{sound_at}
-use Rattle.machine.specs.Code.Laws.{replies_sound, replies_refused}
 use Rattle.std.proofs.Common.{rules}
+use Rattle.machine.specs.Code.Laws.{replies_sound, replies_refused}
 use Rattle.machine.proofs.step.Goals as goal
 
-pub returns-in_default : goal.returns-in_default
-returns-in_default c = search (replies_refused, rules)
+pub returns-in-Ok : goal.returns-in-Ok
+returns-in-Ok c = replies_sound _ _ _ _ _ c.read_shape.ensures.shape c.in-Ok.docket _ c.in-Ok.is (search rules) c.step_in.ensures
 
-pub step_in-requires : goal.step_in-requires
-step_in-requires c = search (sound_at, rules)
-
-pub returns : goal.returns
-returns c = search (replies_sound, rules)
+pub returns-in-Err : goal.returns-in-Err
+returns-in-Err c = replies_refused _ _ _ _ _ c.read_shape.ensures.shape _ c.in-Err.is (search rules)

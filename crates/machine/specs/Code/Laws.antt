@@ -1,12 +1,13 @@
 -- The code's returns follow the definitions of the calls. Assumes nothing.
-use Rattle.std.specs.Prelude.{◌≡◌, Bool, false, cond, ◌&&◌, List, [], ℕ, ◌≤◌, ◌<◌, ltb, eqb}
+use Rattle.std.specs.Option.{is_none, MatchOption}
+use Rattle.std.specs.Prelude.{◌≡◌, Bool, false, cond, ◌&&◌, List, [], ℕ, ◌≤◌, ◌<◌, ltb, eqb, Option, Some, None, Result, Ok, Err}
 use Rattle.std.proofs.Math.Path.{refl, sym, ap}
 use Rattle.std.proofs.Common.{◌∙◌, arith}
 use Rattle.std.proofs.Math.Bool.{true, not, and-false}
 use Rattle.std.specs.Bool.{beq}
 use Rattle.std.proofs.Math.Logic.{by_cases}
 use Rattle.std.proofs.Math.Decide.{dec_lt}
-use borrow.Author.Tests.{ltb-true, lt-ltb, le-ltb, eq-eqb, ne_eqb, eqb-true, not-true, not-false}
+use borrow.Author.Tests.{ltb-true, ltb-false, lt-ltb, le-ltb, eq-eqb, ne_eqb}
 use Rattle.theory.specs.Bool.{member, imp}
 use Rattle.theory.proofs.Bool.Laws.{by_test, not_both, is_false, and_elim}
 use Rattle.theory.proofs.Below.Laws.{all_same, first_is, first_passes, first-lowest}
@@ -24,45 +25,45 @@ use Rattle.format.specs.Format.{sections_of, protocol_of, layers_of, protocol_in
 use Rattle.format.specs.Code.{has_flag}
 use Rattle.format.specs.declared.Header.{Header}
 use Rattle.format.specs.declared.Flag.TheVariants.{Output}
-use Rattle.shape.specs.Shape.{refusal, shape_of, by_shape}
+use Rattle.refusals.specs.Refusal.{Refusal, refusal}
+use Rattle.shape.specs.Shape.{shape_of, by_shape}
 use Rattle.shape.proofs.ShapeLaws.{sound_then, sound_else}
-use Rattle.shape.specs.Code.{refusal_of}
+use Rattle.shape.specs.Code.{header_in}
+use Rattle.shape.specs.declared.sound.Docket.{Docket}
 use Rattle.shape.specs.Sound.{SoundShape}
 use Rattle.shape.proofs.SoundLaws.{shape_sound}
-use Rattle.shape.specs.declared.Refusal.{Refusal}
-use Rattle.shape.specs.declared.Shape.{Shape}
-use Rattle.shape.specs.declared.Shape.TheVariants.{Sound, Refused}
-use Rattle.counts.specs.Code.{counts_fault, is_occupied}
-use Rattle.counts.specs.Code.Laws.{fault-admitted, admit-fault, fault-size}
-use Rattle.machine.specs.declared.Started.{Started}
-use Rattle.machine.specs.declared.Started.TheVariants as started
-use Rattle.machine.specs.declared.Pairs.{Pairs}
-use Rattle.machine.specs.declared.Pairs.TheVariants as paired
-use Rattle.machine.specs.declared.YesNo.{YesNo}
-use Rattle.machine.specs.declared.YesNo.TheVariants as yesNo
-use Rattle.machine.specs.declared.Verdict.{Verdict}
-use Rattle.machine.specs.declared.Verdict.TheVariants as shown
+use Rattle.counts.specs.Code.{counts_test, chosen_of, is_occupied}
+use Rattle.counts.specs.Code.Laws as counts
+use Rattle.counts.specs.Code.Laws.{chosen-tells}
 use Rattle.machine.specs.Calls.{verdict_as, reply_of, counts_of}
 use Rattle.machine.specs.Code.{Replies, RepliesOn}
 
 -- ---- The shape s of a docket with bytes b
 
-module _ (b c d : List ℕ) (x : Call) (s : Shape) (e : s ≡ shape_of b) where
-  pub replies_sound : (h : Header) (said : Reply) → s ≡ Sound h → Replies (protocol_in b h) (layers_in b h) c x said d → RepliesOn b c x said d
+module _ (b c e : List ℕ) (x : Call) (s : Result Docket Refusal) (h : header_in s ≡ shape_of b) where
+  pub replies_sound : (d : Docket) (said : Reply) → s ≡ Ok d → d.bytes.now ≡ b
+      → Replies (protocol_in d.bytes.now d.header) (layers_in d.bytes.now d.header) c x said e → RepliesOn b c x said e
   unfolding reply_of counts_of
-  replies_sound h said u g = record {
-    says = sound_then (λ r. refused r.number r.place) (λ k. reply (protocol_in b k) (layers_in b k) c x) said s (shape_of b) e h u g.says;
-    leaves = sound_then (λ _. c) (λ k. counts_after (protocol_in b k) (layers_in b k) c x) d s (shape_of b) e h u g.leaves;
+  replies_sound d said u q g = record {
+    says =
+        sound_then (λ r. refused r.number r.place) (λ k. reply (protocol_in b k) (layers_in b k) c x) said s (shape_of b) h d u
+        (rw q at g.says);
+    leaves = sound_then (λ _. c) (λ k. counts_after (protocol_in b k) (layers_in b k) c x) e s (shape_of b) h d u (rw q at g.leaves);
   }
 
-  pub replies_refused : (r q : Refusal) → s ≡ Refused r → q ≡ refusal_of s → d ≡ c → RepliesOn b c x (refused q.number q.place) d
+  pub replies_refused : (r : Refusal) → s ≡ Err r → e ≡ c → RepliesOn b c x (refused r.number r.place) e
   unfolding reply_of counts_of
-  replies_refused r q u p g = record {
+  replies_refused r u g = record {
     says =
-        sound_else (λ k. refused k.number k.place) (λ h. reply (protocol_in b h) (layers_in b h) c x)
-        (refused q.number q.place) s (shape_of b) e r q u p refl;
-    leaves = sound_else (λ _. c) (λ h. counts_after (protocol_in b h) (layers_in b h) c x) d s (shape_of b) e r q u p g;
+        sound_else (λ k. refused k.number k.place) (λ k. reply (protocol_in b k) (layers_in b k) c x)
+        (refused r.number r.place) s (shape_of b) h r u refl;
+    leaves = sound_else (λ _. c) (λ k. counts_after (protocol_in b k) (layers_in b k) c x) e s (shape_of b) h r u g;
   }
+
+-- A call that changes nothing, which answers f of the header and the bytes.
+pub answers_sound : {A : Type 0} (b : List ℕ) (f : List ℕ → Header → Result A Refusal) (a : Result A Refusal) (s : Result Docket Refusal)
+    → header_in s ≡ shape_of b → (d : Docket) → s ≡ Ok d → d.bytes.now ≡ b → a ≡ f d.bytes.now d.header → a ≡ by_shape Err (f b) (shape_of b)
+answers_sound b f a s h d u q g = sound_then Err (f b) a s (shape_of b) h d u (rw q at g)
 
 -- The calls on the bytes of a docket of sound shape are those on its protocol.
 module _ (b : List ℕ) (h : Header) (sound : SoundShape b h) (c : List ℕ) (x : Call) where
@@ -74,35 +75,29 @@ module _ (b : List ℕ) (h : Header) (sound : SoundShape b h) (c : List ℕ) (x 
   unfolding counts_of
   counts_sound = ap (by_shape (λ _. c) (λ k. counts_after (protocol_in b k) (layers_in b k) c x)) (shape_sound b h sound)
 
--- ---- The counts: number is their fault, and t whether there is one
+-- ---- The counts: x is what tests 20 and 21 find
 
-module _ (P : Protocol) (c : List ℕ) (number : ℕ) (e : number ≡ counts_fault P.states c) (t : Bool) (d : t ≡ not (eqb number 0)) where
-  by_fault : {A : Type 0} (refuse : ℕ → A) (x : A) → admit P c refuse x ≡ cond (eqb number 0) x (refuse number)
-  by_fault refuse x = rw e (admit-fault P c refuse x)
+module _ (P : Protocol) (c : List ℕ) (x : Result (Unit {0}) Refusal) (e : x ≡ counts_test P.states c) where
+  pub counts_refused : {A : Type 0} (g : Refusal → A) (y a : A) (r : Refusal) → x ≡ Err r → a ≡ g r → a ≡ admit P c (λ n. g (refusal n 0)) y
+  counts_refused g y a r u h = h ∙ sym (counts.test_refuses P c r (sym u ∙ e) g y)
 
-  passes : admitted P c ≡ eqb number 0
-  passes = rw e (sym (fault-admitted P c))
+  pub counts_passed : {A : Type 0} (refuse : ℕ → A) (y a : A) → x ≡ Ok tt → a ≡ y → a ≡ admit P c refuse y
+  counts_passed refuse y a u h = h ∙ sym (counts.test_admits P c (sym u ∙ e) refuse y)
 
-  pub counts_refused : {A : Type 0} (refuse : ℕ → A) (x a : A) → t ≡ true → a ≡ refuse number → a ≡ admit P c refuse x
-  counts_refused refuse x a u g = let off : eqb number 0 ≡ false = not-true _ (sym d ∙ u) in g ∙ sym (by_fault refuse x ∙ rw off)
+  pub counts-admitted : x ≡ Ok tt → admitted P c ≡ true
+  counts-admitted u = counts.test_admitted P c (sym u ∙ e)
 
-  pub counts_passed : {A : Type 0} (refuse : ℕ → A) (x a : A) → t ≡ false → a ≡ x → a ≡ admit P c refuse x
-  counts_passed refuse x a u g = let on : eqb number 0 ≡ true = not-false _ (sym d ∙ u) in g ∙ sym (by_fault refuse x ∙ rw on)
-
-  pub counts-admitted : t ≡ false → admitted P c ≡ true
-  counts-admitted u = passes ∙ not-false _ (sym d ∙ u)
+  pub counts_small : x ≡ Ok tt → size c ≤ 1000000
+  counts_small u = (counts.test-size P c (sym u ∙ e)).1
 
   -- What a step or a run on counts that do not pass says and leaves.
-  pub replies_not_admitted : (L : Layers) (x : Call) → t ≡ true → Replies P L c x (refused number 0) c
+  pub replies_not_admitted : (L : Layers) (y : Call) (r : Refusal) → x ≡ Err r → Replies P L c y (refused r.number r.place) c
   unfolding reply counts_after after
-  replies_not_admitted L x u = record { says = says x; leaves = sym (ap (after P c) (adds_off P L c x (passes ∙ not-true _ (sym d ∙ u)))) }
+  replies_not_admitted L y r u = record { says = says y; leaves = sym (ap (after P c) (adds_off P L c y (counts.test_not_admitted P c r (sym u ∙ e)))) }
     where
-      says : (x : Call) → refused number 0 ≡ reply P L c x
-      says (step r) = counts_refused (λ n. refused n 0) (step_reply P c r) (refused number 0) u refl
-      says (run limit) = counts_refused (λ n. refused n 0) (run_reply P L c limit) (refused number 0) u refl
-
-pub counts_small : (n : ℕ) (c : List ℕ) (number : ℕ) (t : Bool) → number ≡ counts_fault n c → t ≡ not (eqb number 0) → t ≡ false → size c ≤ 1000000
-counts_small n c number t e d u = fault-size n c (sym e ∙ eqb-true _ _ (not-false _ (sym d ∙ u)))
+      says : (y : Call) → refused r.number r.place ≡ reply P L c y
+      says (step k) = counts_refused (λ q. refused q.number q.place) (step_reply P c k) (refused r.number r.place) r u refl
+      says (run limit) = counts_refused (λ q. refused q.number q.place) (run_reply P L c limit) (refused r.number r.place) r u refl
 
 -- ---- The start test
 
@@ -167,14 +162,14 @@ module _ (b : List ℕ) (h : Header) (c states : List ℕ) (sound : SoundShape b
         (λ s m. fit_before s (omega (arith, small)) m) (λ m. absurd (omega arith))
 
     -- The start test beyond 20 and 21.
-    abbrev started_by : Started
+    abbrev started_by : Result (Unit {0}) Refusal
     started_by =
-        cond (ltb (start_test (protocol_in b h) c) h.sizes.states) (started.Refused (refusal 22 (start_test (protocol_in b h) c))) started.Start
+        cond (ltb (start_test (protocol_in b h) c) h.sizes.states) (Err (refusal 22 (start_test (protocol_in b h) c))) (Ok tt)
 
-    pub start_unfit : (a : Started) → place < 64 → a ≡ started.Refused (refusal 22 place) → a ≡ started_by
+    pub start_unfit : (a : Result (Unit {0}) Refusal) → place < 64 → a ≡ Err (refusal 22 place) → a ≡ started_by
     start_unfit a l g = let f = start_first l in rw (f.0, lt-ltb place h.sizes.states f.1) g
 
-    pub start_fit : (a : Started) → 64 ≤ place → a ≡ started.Start → a ≡ started_by
+    pub start_fit : (a : Result (Unit {0}) Refusal) → 64 ≤ place → a ≡ Ok tt → a ≡ started_by
     start_fit a l g = rw (start_none l, le-ltb h.sizes.states h.sizes.states (omega arith)) g
 
   -- ---- The verdict
@@ -207,17 +202,17 @@ module _ (b : List ℕ) (h : Header) (c states : List ℕ) (sound : SoundShape b
         (λ s. imp (ltb 0 (count c s)) (beq ((protocol_in b h).output s) true))
         (λ s l. rw (occupied_below s l, output_below s l) (imp_beq_true (ltb 0 (count c s)) ((protocol_in b h).output s)))
 
-    module _ (t : Bool) (a : Verdict) (e : t ≡ disjoint_of occupied outputs) where
-      pub verdict_0 : t ≡ true → a ≡ shown.Agreed false → a ≡ verdict_as (output_of (protocol_in b h) c)
+    module _ (t : Bool) (a : Result (Option Bool) Refusal) (e : t ≡ disjoint_of occupied outputs) where
+      pub verdict_0 : t ≡ true → a ≡ Ok (Some false) → a ≡ Ok (verdict_as (output_of (protocol_in b h) c))
       unfolding output_of
       verdict_0 d g = rw (sym shows_0 ∙ sym e ∙ d) g
 
       module _ (d : t ≡ false) (u : Bool) (f : u ≡ subset_of occupied outputs) where
-        pub verdict_1 : u ≡ true → a ≡ shown.Agreed true → a ≡ verdict_as (output_of (protocol_in b h) c)
+        pub verdict_1 : u ≡ true → a ≡ Ok (Some true) → a ≡ Ok (verdict_as (output_of (protocol_in b h) c))
         unfolding output_of
         verdict_1 v g = rw (sym shows_0 ∙ sym e ∙ d, sym shows_1 ∙ sym f ∙ v) g
 
-        pub verdict_mixed : u ≡ false → a ≡ shown.Mixed → a ≡ verdict_as (output_of (protocol_in b h) c)
+        pub verdict_mixed : u ≡ false → a ≡ Ok None → a ≡ Ok (verdict_as (output_of (protocol_in b h) c))
         unfolding output_of
         verdict_mixed v g = rw (sym shows_0 ∙ sym e ∙ d, sym shows_1 ∙ sym f ∙ v) g
 
@@ -244,6 +239,45 @@ module _ (P : Protocol) {L : Layers} (part : OrderedPartition P L) (c : List ℕ
       (λ t. t ∙ sym (eq-eqb _ _ (chosen_none t)))
       (λ t. t ∙ sym (ne_eqb (chosen P L c) P.rules (λ e. omega (arith, (chosen-enabled t).0))))
 
+  -- o is the rule that is chosen, if one is.
+  pub terminal-none : (o : Option ℕ) → o ≡ chosen_of P L c → terminal P c ≡ is_none o
+  terminal-none o e = terminal-chosen ∙ go o (chosen-tells P L c o e)
+    where
+      go : (o : Option ℕ) → MatchOption o (chosen P L c ≡ P.rules) (λ r. (r < P.rules) × (r ≡ chosen P L c)) → eqb (chosen P L c) P.rules ≡ is_none o
+      go (Some r) f = ne_eqb (chosen P L c) P.rules (λ q. omega (arith, f.0, f.1))
+      go None f = eq-eqb (chosen P L c) P.rules f
+
+-- ---- The rule that a number names: x is what rule_in finds
+
+err_not_ok : {A R : Type 0} {r : R} {a : A} → Err r ≡ Ok a → ⊥
+err_not_ok {A} {R} {r} {a} e = let z : ◌≡◌ {A = ℕ} 0 1 = cc in omega arith
+
+-- What stands in a result, and p where it is of the other kind.
+abbrev value_or : {A R : Type 0} → A → Result A R → A
+value_or p (Ok a) = a
+value_or p (Err r) = p
+
+abbrev error_or : {A R : Type 0} → R → Result A R → R
+error_or p (Ok a) = p
+error_or p (Err r) = r
+
+module _ (r n : ℕ) (x : Result ℕ Refusal) (e : x ≡ cond (ltb r n) (Ok r) (Err (refusal 23 r))) where
+  pub rule_unknown : (q : Refusal) → x ≡ Err q → (n ≤ r) × (q ≡ refusal 23 r)
+  rule_unknown q u =
+      by_test (ltb r n)
+      (λ t. absurd (err_not_ok (sym u ∙ rw t at e)))
+      (λ t. (ltb-false r n t, ap (error_or q) (sym u ∙ rw t at e)))
+
+  pub rule_known : (k : ℕ) → x ≡ Ok k → (r < n) × (k ≡ r)
+  rule_known k u =
+      by_test (ltb r n)
+      (λ t. (ltb-true r n t, ap (value_or k) (sym u ∙ rw t at e)))
+      (λ t. absurd (err_not_ok (sym (sym u ∙ rw t at e))))
+
+  -- A number that names no rule.
+  pub number_unknown : {A : Type 0} (q : Refusal) (y a : Result A Refusal) → x ≡ Err q → a ≡ Err q → a ≡ cond (ltb r n) y (Err (refusal 23 r))
+  number_unknown q y a u g = let f = rule_unknown q u in rw (le-ltb r n f.0) (g ∙ ap Err f.1)
+
 -- ---- Calls on the sections of a docket, as calls on the docket
 
 module _ (b : List ℕ) (h : Header) (states rules : List ℕ) (hs : states ≡ (sections_of b h).states) (hr : rules ≡ (sections_of b h).rules) where
@@ -261,22 +295,20 @@ module _ (b : List ℕ) (h : Header) (states rules : List ℕ) (hs : states ≡ 
   replies_in c d x said g = rw (← hs, ← hr) g
 
   -- The pairs of rule r, of number k.
-  pub pairs-known : (c : List ℕ) (r k n : ℕ) (a : Pairs) → k ≡ r → r < h.sizes.rules
-      → n ≡ pairs (protocol_of h.sizes states rules) c k → a ≡ paired.Number n
-      → a ≡ cond (ltb r h.sizes.rules) (paired.Number (pairs (protocol_in b h) c r)) (paired.Refused (refusal 23 r))
-  pairs-known c r k n a q l e g =
-      rw (lt-ltb r h.sizes.rules l) (g ∙ ap paired.Number (e ∙ ap (λ P. pairs P c k) protocol_in_lem ∙ ap (pairs (protocol_in b h) c) q))
+  pub pairs-known : (c : List ℕ) (r k n : ℕ) (x a : Result ℕ Refusal) → x ≡ cond (ltb r h.sizes.rules) (Ok r) (Err (refusal 23 r)) → x ≡ Ok k
+      → n ≡ pairs (protocol_of h.sizes states rules) c k → a ≡ Ok n
+      → a ≡ cond (ltb r h.sizes.rules) (Ok (pairs (protocol_in b h) c r)) (Err (refusal 23 r))
+  pairs-known c r k n x a d u e g =
+      let f = rule_known r h.sizes.rules x d k u in
+      rw (lt-ltb r h.sizes.rules f.0) (g ∙ ap Ok (e ∙ ap (λ P. pairs P c k) protocol_in_lem ∙ ap (pairs (protocol_in b h) c) f.1))
 
-  pub terminal_in : (c : List ℕ) → SoundShape b h → (r : ℕ) (a : YesNo)
-      → r ≡ chosen (protocol_of h.sizes states rules) (layers_of h.sizes rules) c → a ≡ yesNo.Is (eqb r h.sizes.rules)
-      → a ≡ yesNo.Is (terminal (protocol_in b h) c)
-  terminal_in c sound r a e g =
-      let same : r ≡ chosen (protocol_in b h) (layers_in b h) c = rw (← hs, ← hr) e in
-      g ∙ ap yesNo.Is (ap (λ k. eqb k h.sizes.rules) same ∙ sym (terminal-chosen (protocol_in b h) sound.sections.partition c))
-
--- A number that names no rule.
-pub number_unknown : {A : Type 0} (r n : ℕ) (a x y : A) → n ≤ r → a ≡ y → a ≡ cond (ltb r n) x y
-number_unknown r n a x y l g = rw (le-ltb r n l) g
+  -- o is the rule that is chosen, if one is.
+  pub terminal_in : (c : List ℕ) → SoundShape b h → (o : Option ℕ) (t : Bool) (a : Result Bool Refusal)
+      → o ≡ chosen_of (protocol_of h.sizes states rules) (layers_of h.sizes rules) c → t ≡ is_none o → a ≡ Ok t
+      → a ≡ Ok (terminal (protocol_in b h) c)
+  terminal_in c sound o t a e d g =
+      let same : o ≡ chosen_of (protocol_in b h) (layers_in b h) c = rw (← hs, ← hr) e in
+      g ∙ ap Ok (d ∙ sym (terminal-none (protocol_in b h) sound.sections.partition c o same))
 
 -- ---- Step
 
@@ -295,6 +327,11 @@ module _ (P : Protocol) (L : Layers) (c : List ℕ) (r : ℕ) (on : admitted P c
   pub step_unknown : P.rules ≤ r → Replies P L c (step r) (refused 23 r) c
   unfolding fires
   step_unknown l = step_refused (refused 23 r) (rw (le-ltb r P.rules l)) (step_no_rule P c r l)
+
+  -- x is what rule_in finds.
+  pub step_no_such : (x : Result ℕ Refusal) → x ≡ cond (ltb r P.rules) (Ok r) (Err (refusal 23 r)) → (q : Refusal) → x ≡ Err q
+      → Replies P L c (step r) (refused q.number q.place) c
+  step_no_such x e q u = let f = rule_unknown r P.rules x e q u in rw (f.1) (step_unknown f.0)
 
   -- Rule r, of number k: whether it is enabled is t.
   module _ (k : ℕ) (t : Bool) (q : k ≡ r) (l : r < P.rules) (e : t ≡ enabled P c k) where

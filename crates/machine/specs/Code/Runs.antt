@@ -1,12 +1,14 @@
 -- Where a run stands after so many steps. Assumes nothing.
-use Rattle.std.specs.Prelude.{◌≡◌, true, List, [], ◌∷◌, leb}
+use Rattle.std.specs.Prelude.{◌≡◌, Bool, true, List, [], ◌∷◌, leb, Option, Some, None}
+use Rattle.std.specs.Option.{is_none}
+use Rattle.counts.specs.Code.{chosen_of}
+use Rattle.counts.specs.Code.Laws.{chosen-tells}
 use Rattle.std.proofs.Math.Path.{sym, ap}
-use Rattle.std.proofs.Common.{◌∙◌}
+use Rattle.std.proofs.Common.{◌∙◌, subst}
 use Rattle.std.proofs.Math.Bool.{false}
 use Prim.Native.Nat.{ℕ, suc, ◌+◌, ◌-◌, ◌≤◌, ◌<◌}
 use native.Mathlib.Omega.{arith}
-use borrow.Author.Tests.{leb-true, eq-eqb, ne_eqb}
-use Rattle.std.proofs.Math.Dec.{eqb}
+use borrow.Author.Tests.{leb-true}
 use Rattle.std.proofs.Math.ListN.{length}
 use Rattle.theory.proofs.Bool.Laws.{and_elim}
 use Rattle.theory.specs.Protocol.{Protocol, WellFormed, size, fire, terminal, after}
@@ -17,7 +19,7 @@ use Rattle.theory.specs.Machine.{ran, run, is_sized, is_within, admitted, chosen
 use Rattle.theory.proofs.Machine.Laws.{adds_on, admitted_sized, reply_run}
 use Rattle.theory.proofs.Machine.Rest.{at_rest, not_at_rest}
 use Rattle.machine.specs.Code.{Replies}
-use Rattle.machine.specs.Code.Laws.{chosen-enabled, terminal-chosen}
+use Rattle.machine.specs.Code.Laws.{chosen-enabled, terminal-none}
 
 -- A run from c with this limit stands at d after k steps: what is still to run from d completes it.
 pub record Running (P : Protocol) (L : Layers) (limit : ℕ) (c : List ℕ) (k : ℕ) (d : List ℕ) : Type 0 where
@@ -44,13 +46,13 @@ module _ (P : Protocol) (L : Layers) (limit : ℕ) (c : List ℕ) where
   pub running_length : (k : ℕ) (d : List ℕ) → admitted P c ≡ true → Running P L limit c k d → length d ≡ length c
   running_length k d on g = g.sized ∙ sym (admitted_sized P c on)
 
-  module _ (part : OrderedPartition P L) (k : ℕ) (d : List ℕ) (g : Running P L limit c k d) (r : ℕ) (e : r ≡ chosen P L d) where
-    pub running_more : WellFormed P → k < limit → (r ≡ P.rules → ⊥) → (d' : List ℕ) → d' ≡ fire P d r → Running P L limit c (k + 1) d'
+  module _ (part : OrderedPartition P L) (k : ℕ) (d : List ℕ) (g : Running P L limit c k d) (o : Option ℕ) (e : o ≡ chosen_of P L d) where
+    pub running_more : WellFormed P → k < limit → (r : ℕ) → o ≡ Some r → (d' : List ℕ) → d' ≡ fire P d r → Running P L limit c (k + 1) d'
     unfolding after
-    running_more good l more d' f =
-        let t : terminal P d ≡ false = terminal-chosen P part d ∙ ne_eqb (chosen P L d) P.rules (λ q. more (e ∙ q)) in
+    running_more good l r u d' f =
+        let t : terminal P d ≡ false = terminal-none P part d o e ∙ ap is_none u in
         let s = chosen-enabled P part d t in
-        let next : d' ≡ fire P d (chosen P L d) = f ∙ ap (fire P d) e in
+        let next : d' ≡ fire P d (chosen P L d) = f ∙ ap (fire P d) (rw u at (chosen-tells P L d o e)).1 in
         let left : limit - k ≡ suc (limit - (k + 1)) = omega arith in
         let numbers : run_numbers P L (limit - k) d ≡ chosen P L d ∷ run_numbers P L (limit - (k + 1)) d' =
         ap (λ n. run_numbers P L n d) left ∙ not_at_rest P L (limit - (k + 1)) d t ∙ ap (λ x. chosen P L d ∷ run_numbers P L (limit - (k + 1)) x) (sym next) in
@@ -66,23 +68,27 @@ module _ (P : Protocol) (L : Layers) (limit : ℕ) (c : List ℕ) where
           small = omega (arith, ap size next, size-fire P good d (chosen P L d) firing, g.small);
         }
 
-    done : admitted P c ≡ true → run_numbers P L (limit - k) d ≡ [] → Replies P L c (run limit) (ran k (eqb r P.rules)) d
+    done : admitted P c ≡ true → run_numbers P L (limit - k) d ≡ [] → (t : Bool) → t ≡ terminal P d → Replies P L c (run limit) (ran k t) d
     unfolding counts_after run_reply after
-    done on over =
+    done on over t is =
         let end : after P c (run_numbers P L limit c) ≡ d = g.counts ∙ ap (after P d) over in
         let steps : k ≡ length (run_numbers P L limit c) = omega (arith, g.total, ap length over) in
-        let rest : eqb r P.rules ≡ terminal P (after P c (run_numbers P L limit c)) =
-        ap (λ i. eqb i P.rules) e ∙ sym (terminal-chosen P part d) ∙ sym (ap (terminal P) end) in
+        let rest : t ≡ terminal P (after P c (run_numbers P L limit c)) = is ∙ sym (ap (terminal P) end) in
         record {
-          says = ap (λ n. ran n (eqb r P.rules)) steps ∙ ap (ran (length (run_numbers P L limit c))) rest ∙ sym (reply_run P L c limit on);
+          says = ap (λ n. ran n t) steps ∙ ap (ran (length (run_numbers P L limit c))) rest ∙ sym (reply_run P L c limit on);
           leaves = sym (ap (after P c) (adds_on P L c (run limit) on) ∙ end);
         }
 
-    pub running_limit : admitted P c ≡ true → limit ≤ k → Replies P L c (run limit) (ran k (eqb r P.rules)) d
+    pub running_limit : admitted P c ≡ true → limit ≤ k → (t : Bool) → t ≡ is_none o → Replies P L c (run limit) (ran limit t) d
     unfolding run_numbers
-    running_limit on l = done on (ap (λ n. run_numbers P L n d) (let z : limit - k ≡ 0 = omega arith in z))
+    running_limit on l t u =
+        let all : k ≡ limit = omega (arith, g.within) in
+        subst (λ n. Replies P L c (run limit) (ran n t) d) all
+        (done on (ap (λ n. run_numbers P L n d) (let z : limit - k ≡ 0 = omega arith in z)) t (u ∙ sym (terminal-none P part d o e)))
 
-    pub running_rest : admitted P c ≡ true → r ≡ P.rules → Replies P L c (run limit) (ran k (eqb r P.rules)) d
-    running_rest on q = done on (at_rest P L (limit - k) d (terminal-chosen P part d ∙ eq-eqb (chosen P L d) P.rules (sym e ∙ q)))
+    pub running_rest : admitted P c ≡ true → o ≡ None → Replies P L c (run limit) (ran k true) d
+    running_rest on u =
+        let t : terminal P d ≡ true = terminal-none P part d o e ∙ ap is_none u in
+        done on (at_rest P L (limit - k) d t) true (sym t)
 
 pub ruleset running = (running_none, running_length, running_more, running_limit, running_rest)

@@ -1,28 +1,20 @@
 -- Of the i rules from 64 word on, those that take from the set and those that put into it are gathered.
-use Rattle.std.proofs.Common.{rules}
-use Rattle.node.specs.Code.Laws.{rule_states, flows, flow_more}
+use Rattle.std.proofs.Common.{◌<◌, arith, rules}
+use Rattle.node.specs.Code.Laws.{rule_states, flows, flow_more, flow-whole}
 use Rattle.node.proofs.word_flow.Goals as goal
 
 pub loop-i-init : goal.loop-i-init
 loop-i-init c = search (flows, rules)
 
 pub meets-takes-requires : goal.meets-takes-requires
-meets-takes-requires c = search (rule_states, rules)
-
-pub meets-puts-requires : goal.meets-puts-requires
-meets-puts-requires c = search (rule_states, rules)
+meets-takes-requires c = let l : c.from-at.result < c.args.z.rules = omega arith in search (rule_states, rules)
 
 pub loop-i-preserved : goal.loop-i-preserved
 loop-i-preserved c =
-    let taking = c.meets-takes.ensures in
-    let putting = c.meets-puts.ensures in
-    let so_far = c.loop-i.invariant in (
-      search rules,
-      flow_more _ _ _ _ _ _ _ _ _ _ so_far.1 (search rules) taking putting c.with_if-taking.ensures c.with_if-putting.ensures,
-    )
+    let taking = rw c.from-at.ensures at c.meets-takes.ensures in
+    let putting = rw c.from-at.ensures at c.meets-puts.ensures in
+    flow_more _ _ _ _ _ _ _ _ _ _ c.loop-i.invariant (omega arith) taking putting
+    (rw c.from.ensures at c.with_if-taking.ensures) (rw c.from-in-loop-i.ensures at c.with_if-putting.ensures)
 
-pub returns-after-loop-i : goal.returns-after-loop-i
-returns-after-loop-i c = search (flows, rules)
-
-pub returns-then-z-r : goal.returns-then-z-r
-returns-then-z-r c = search (flows, rules)
+pub returns : goal.returns
+returns c = flow-whole _ _ _ _ _ _ c.loop-i.invariant (omega arith)

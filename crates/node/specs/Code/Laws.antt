@@ -1,14 +1,15 @@
 -- Laws for the functions of a node. Assumes nothing.
-use Rattle.std.specs.Prelude.{◌≡◌, Bool, false, not, cond, ◌&&◌, ◌||◌, List, [], ◌∷◌, leb, ltb, eqb, length, get_or, set}
-use Rattle.std.proofs.Math.Path.{refl, sym, ap, fun_ext}
+use Rattle.std.specs.Prelude.{◌≡◌, Bool, false, not, cond, ◌&&◌, ◌||◌, List, [], ◌∷◌, leb, ltb, eqb, length, get_or, set, Result, Ok, Err}
+use Rattle.std.proofs.Math.Path.{refl, sym, ap, fun_ext, subst}
 use Rattle.std.proofs.Common.{◌∙◌, add-suc, add-zero, lt_of_lt_of_le}
 use Rattle.std.proofs.Math.Bool.{true, and-true, and-false, and_assoc, and_comm}
 use Rattle.std.specs.Bool.{beq}
-use Rattle.std.proofs.Math.Logic.{by_cases}
-use Prim.Native.Nat.{ℕ, zero, suc, ◌+◌, ◌*◌, ◌^◌, ◌≤◌, ◌<◌}
+use Rattle.std.proofs.Math.Logic.{◌⊎◌, ⊎_elim, by_cases}
+use Prim.Native.Nat.{ℕ, zero, suc, ◌+◌, ◌-◌, ◌*◌, ◌^◌, ◌≤◌, ◌<◌, min}
 use Rattle.std.proofs.Math.Decide.{dec_lt}
+use Rattle.std.proofs.lemmas.Bool.Decides.{nat_tests}
 use native.Mathlib.Omega.{arith}
-use borrow.Author.Tests.{lt-ltb, le-ltb, ltb-true, ltb-false, leb-true, eqb-true, eqb-false, not-true, not-false}
+use borrow.Author.Tests.{lt-ltb, le-ltb, ltb-true, ltb-false, leb-true}
 use Rattle.theory.specs.Bool.{member, imp}
 use Rattle.theory.proofs.Bool.Laws.{by_test, not_both, is_false, and_elim, imp_intro, imp_elim}
 use Rattle.theory.specs.Below.{all_below}
@@ -18,37 +19,46 @@ use Rattle.theory.specs.Facts.{Facts, with_absent, with_present, with_at_most_on
 use Rattle.theory.specs.Tree as tree
 use Rattle.theory.specs.Tree.{Assumption, leaf, output_absent, contradiction, disabled, case_split, trap, siphon, remainder, bad, checked}
 use Rattle.theory.specs.Tree.{takes, puts, touches, follows, is_trap, is_siphon, within, is_set, is_run, children, ground, by_kind, node, refusal_number}
-use Rattle.bits.specs.Code.{single_of, full_of, among_of, union_of, with_if, without_of, subset_of, in_words, in_word, first_words}
+use Rattle.bits.specs.Code.{single_of, full_of, among_of, union_of, with_if, subset_of, in_words, in_word, first_words}
 use Rattle.bits.specs.Code.Laws.{member_above, member_small, all_wider, subset_states, among_none, among_more}
 use Rattle.bits.specs.Code.Laws.{words_start, words_more, words_end}
-use Rattle.format.specs.Format.{is_output, rule_p, rule_q, protocol_of, tree_of}
+use Rattle.refusals.specs.Code.{number_of}
+use Rattle.refusals.specs.declared.Fault.{Fault}
+use Rattle.refusals.specs.declared.Fault.TheVariants.{Fields, Ground}
+use Rattle.format.specs.Format.{is_output, rule_p, rule_q, node_kind, node_party, node_argument, node_set, protocol_of, tree_of}
 use Rattle.format.specs.declared.Sizes.{Sizes}
 use Rattle.shape.specs.Code.{SoundRules}
-use Rattle.facts.specs.Code.{is_end, states_at, only_if}
+use Rattle.facts.specs.Code.{is_end, only_if}
 use Rattle.facts.specs.Code.Laws.{within_party, within_ends, within-states, within-end-states}
 use Rattle.threshold.specs.Code.{closes_for, closes_modulo_for}
-use Rattle.node.specs.Code.{output_at, assumed_word, assumption_of, AimFits, node_of, rules_in, FlowAt, breaking_of, is_trap_of}
-use Rattle.node.specs.Code.{Turn, refuse, check, judged, node_turn, turn_at, leaf_fields, run_fields, state_fields, rule_fields, set_fields, remainder_fields}
+use Rattle.node.specs.Code.{output_at, assumed_word, assumption_of, AimFits, number_of_kind, kind_of, node_with, node_of, rules_in, FlowAt, breaking_of, is_trap_of}
+use Rattle.node.specs.Code.{Turn, refuse, proceed, check, tested, judged, turn_of_step, node_turn, turn_at, leaf_fields, run_fields, state_fields, rule_fields, set_fields, remainder_fields}
 use Rattle.node.specs.Code.{output_gone, NamesRule, disabled_children, NamesSet, party_if, set_ground, set_child, gone_of}
 use Rattle.node.specs.declared.Aim.{Aim}
+use Rattle.node.specs.declared.Children.{Children}
 use Rattle.node.specs.declared.Flow.{Flow}
+use Rattle.node.specs.declared.Kind.{Kind}
+use Rattle.node.specs.declared.Kind.TheVariants.{Leaf, Output, Contradiction, Disabled, Split, Trap, Siphon, Remainder}
 use Rattle.node.specs.declared.Node.{Node}
 
 -- ---- Fields, then ground
 
-pub fields_bad : (f : Bool) (t : Turn) → not f ≡ true → refuse 12 ≡ check f 12 t
-unfolding check
-fields_bad f t h = rw (not-true f h)
+module _ (r : Result (Unit {0}) Fault) (b g : Bool) (e : r ≡ tested b g) where
+  pub judge-refuses : (f : Fault) → r ≡ Err f → (y : Result Children Fault) → y ≡ Err f → (Fs : List Facts) → turn_of_step y ≡ judged b g Fs
+  judge-refuses f d y h Fs = ap turn_of_step h ∙ go b g (sym e ∙ d)
+    where
+      go : (b g : Bool) → tested b g ≡ Err f → refuse (number_of f) ≡ judged b g Fs
+      go true true q = absurd cc
+      go true false q = let k : Ground ≡ f = cc in ap (λ (x : Fault). refuse (number_of x)) (sym k)
+      go false g q = let k : Fields ≡ f = cc in ap (λ (x : Fault). refuse (number_of x)) (sym k)
 
-pub ground-bad : (f g : Bool) (t : Turn) → not f ≡ false → not g ≡ true → refuse 13 ≡ check f 12 (check g 13 t)
-unfolding check
-ground-bad f g t h k = rw (not-false f h, not-true g k)
-
-pub both_good : (f g : Bool) (t : Turn) → not f ≡ false → not g ≡ false → t ≡ check f 12 (check g 13 t)
-unfolding check
-both_good f g t h k = rw (not-false f h, not-false g k)
-
-pub ruleset judging = (fields_bad, ground-bad, both_good)
+  pub judge_passes : (u : Unit {0}) → r ≡ Ok u → (Fs : List Facts) → proceed Fs ≡ judged b g Fs
+  judge_passes u d Fs = go b g (sym e ∙ d)
+    where
+      go : (b g : Bool) → tested b g ≡ Ok u → proceed Fs ≡ judged b g Fs
+      go true true q = refl
+      go true false q = absurd cc
+      go false g q = absurd cc
 
 -- Ground and children count only where the fields are good.
 judged_when : (b g h : Bool) (x : Turn) (Fs Gs : List Facts) → (b ≡ true → (g ≡ h) × (Fs ≡ Gs)) → x ≡ judged b g Fs → x ≡ judged b h Gs
@@ -57,22 +67,6 @@ judged_when true g h x Fs Gs f e = let s = f refl in e ∙ rw (s.0, s.1)
 judged_when false g h x Fs Gs f e = e
 
 -- ---- What a tree refutes
-
-chosen : (b x y : Bool) → (b && x) || (not b && y) ≡ cond b x y
-chosen true true y = refl
-chosen true false y = refl
-chosen false x y = refl
-
-module _ (a : Aim) (k : ℕ) where
-  pub word_ones : (eqb k 2 && a.second) || (not (eqb k 2) && a.first) ≡ true → a.ones ≡ assumed_word a k
-  unfolding assumed_word
-  word_ones e = rw (← chosen (eqb k 2) a.second a.first, e)
-
-  pub word_zeros : (eqb k 2 && a.second) || (not (eqb k 2) && a.first) ≡ false → a.zeros ≡ assumed_word a k
-  unfolding assumed_word
-  word_zeros e = rw (← chosen (eqb k 2) a.second a.first, e)
-
-pub ruleset assumed_words = (word_ones, word_zeros)
 
 has_output : (v b : Bool) → beq b v ≡ cond v b (not b)
 has_output true true = refl
@@ -168,6 +162,9 @@ module _ (P : Protocol) (f : ℕ → Bool) (q : ℕ) where
       ∙ fun_ext
       (λ j. by_test (ltb j i) (λ e. rw e) (λ e. rw (e, le-ltb (64 * q + j) P.rules (omega (arith, ltb-false j i e)))))
 
+  gathered-whole : (i w : ℕ) → Gathered i w → min (P.rules - 64 * q) 64 ≤ i → member w ≡ in_word q (rules_in P f)
+  gathered-whole i w g l = by_cases (dec_lt i 64) (λ m. gathered_past i w g (omega arith)) (λ m. gathered_end i w g (omega arith))
+
 -- Of the i rules from 64 q on, those that take from the set A and those that put into it, counted from there.
 pub record FlowBelow (P : Protocol) (A : ℕ → Bool) (q i taking putting : ℕ) : Type 0 where
   pub taking_is : Gathered P (takes P A) q i taking
@@ -177,13 +174,9 @@ module _ (P : Protocol) (A : ℕ → Bool) (q : ℕ) where
   pub flow_none : FlowBelow P A q 0 0 0
   flow_none = record { taking_is = among_none _; putting_is = among_none _ }
 
-  pub flow_end : (i x y : ℕ) → FlowBelow P A q i x y → 64 ≤ i → FlowAt P A q (record { taking = x; putting = y })
-  flow_end i x y g l =
-      record { taking = gathered_end P (takes P A) q i x g.taking_is l; putting = gathered_end P (puts P A) q i y g.putting_is l }
-
-  pub flow_past : (i x y : ℕ) → FlowBelow P A q i x y → P.rules ≤ 64 * q + i → FlowAt P A q (record { taking = x; putting = y })
-  flow_past i x y g l =
-      record { taking = gathered_past P (takes P A) q i x g.taking_is l; putting = gathered_past P (puts P A) q i y g.putting_is l }
+  pub flow-whole : (i x y : ℕ) → FlowBelow P A q i x y → min (P.rules - 64 * q) 64 ≤ i → FlowAt P A q (record { taking = x; putting = y })
+  flow-whole i x y g l =
+      record { taking = gathered-whole P (takes P A) q i x g.taking_is l; putting = gathered-whole P (puts P A) q i y g.putting_is l }
 
   -- A turn tests the pairs of rule 64 q + i.
   pub flow_more : (i x y v w : ℕ) (t u : Bool) → FlowBelow P A q i x y → 64 * q + i < P.rules → t ≡ A (P.p (64 * q + i)) || A (P.q (64 * q + i))
@@ -195,17 +188,7 @@ module _ (P : Protocol) (A : ℕ → Bool) (q : ℕ) where
         putting_is = gathered_more P (puts P A) q i y w u g.putting_is l hu hw;
       }
 
-pub ruleset flows = (flow_none, flow_end, flow_past, flow_more)
-
-pub breaking_forward : (reversed : Bool) (f : Flow) (w : ℕ) → reversed ≡ false → member w ≡ without_of f.taking f.putting
-    → member w ≡ breaking_of reversed f
-unfolding breaking_of
-breaking_forward reversed f w h e = rw h e
-
-pub breaking_reversed : (reversed : Bool) (f : Flow) (w : ℕ) → reversed ≡ true → member w ≡ without_of f.putting f.taking
-    → member w ≡ breaking_of reversed f
-unfolding breaking_of
-breaking_reversed reversed f w h e = rw h e
+pub ruleset flows = (flow_none, flow-whole, flow_more)
 
 all_split : (m n : ℕ) (f : ℕ → Bool) → all_below (m + n) f ≡ all_below m f && all_below n (λ k. f (m + k))
 unfolding all_below
@@ -347,13 +330,6 @@ party_lt true k m l h = h
 party_lt false k m l h = l
 
 module _ (z : Sizes) (n : Node) (F : Facts) (x : Turn) where
-  -- Kinds 0 and 7.
-  pub leaf_turn : (b t g : Bool) → t ≡ g → x ≡ judged b t [] → x ≡ judged b g []
-  leaf_turn b t g e h = h ∙ ap (λ (y : Bool). judged b y []) e
-
-  pub remainder_turn : (b m h t g : Bool) → m ≡ h → t ≡ g → x ≡ judged (b && m) t [] → x ≡ judged (b && h) g []
-  remainder_turn b m h t g d e j = j ∙ rw (d, e)
-
   -- Kind 1.
   pub output_turn : (states : List ℕ) (a : Aim) (w v : ℕ) (t : Bool) → z.states ≤ 64 → AimFits z states a → w ≡ assumed_word a n.party
       → member v ≡ F.absent n.party → t ≡ subset_of w v → x ≡ judged (run_fields a.runs n) t []
@@ -363,12 +339,6 @@ module _ (z : Sizes) (n : Node) (F : Facts) (x : Turn) where
       g
       ∙ ap (λ (b : Bool). judged (run_fields a.runs n) b [])
       (subset_among z.states w v _ (F.absent n.party) t l (ap member e ∙ assumed-states z states a n.party h) d k)
-
-  -- Kind 2.
-  pub contradiction_turn : (b : Bool) (ps qs : List ℕ) (u v : ℕ) (t o : Bool) → t ≡ member u n.argument → o ≡ member v n.argument
-      → member u ≡ states_at ps n.party → member v ≡ states_at qs n.party → x ≡ judged b (t && o) []
-      → x ≡ judged b (states_at ps n.party n.argument && states_at qs n.party n.argument) []
-  contradiction_turn b ps qs u v t o h k e d g = g ∙ rw (h, k, e, d)
 
   -- Kind 3, where the before pair of the rule is p, q, and o says whether the fields are good.
   module _ (runs : ℕ) (rules : List ℕ) (o : Bool) (s : NamesRule z rules runs n o) (p q : ℕ) (ep : p ≡ rule_p rules n.argument)
@@ -446,7 +416,36 @@ unfolding node_turn checked check ground children refusal_number
 turn_checked P H F true m e = rw e
 turn_checked P H F false m e = refl
 
-module _ (z : Sizes) (states rules nodes numbers leaves : List ℕ) (aim : Aim) (F : Facts) (i : ℕ) (n : Node) (e : n ≡ node_of nodes i) (x : Turn) where
+kind_number : (b : ℕ) (k : Kind) → kind_of b ≡ Ok k → b ≡ number_of_kind k
+kind_number b k e = grind (arith, nat_tests)
+
+unknown_fields : (b : ℕ) (f : Fault) → kind_of b ≡ Err f → f ≡ Fields
+unknown_fields b f e = grind (arith, nat_tests)
+
+unknown-above : (b : ℕ) (f : Fault) → kind_of b ≡ Err f → 7 < b
+unknown-above b f e = grind (arith, nat_tests)
+
+-- The node n, where it is node i.
+module _ (nodes : List ℕ) (i : ℕ) where
+  node-kind : (r : Result Kind Fault) (n : Node) → node_with nodes i r ≡ Ok n → r ≡ Ok n.kind
+  node-kind (Ok k) n e =
+      let h : record { kind = k; party = node_party nodes i; argument = node_argument nodes i; set = node_set nodes i } ≡ n = cc in
+      ap (λ (m : Node). Ok m.kind) h
+  node-kind (Err f) n e = absurd cc
+
+  node-fields : (r : Result Kind Fault) (n : Node) → node_with nodes i r ≡ Ok n
+      → n ≡ record { kind = n.kind; party = node_party nodes i; argument = node_argument nodes i; set = node_set nodes i }
+  node-fields (Ok k) n e =
+      let h : record { kind = k; party = node_party nodes i; argument = node_argument nodes i; set = node_set nodes i } ≡ n = cc in
+      subst (λ (m : Node). m ≡ record { kind = m.kind; party = node_party nodes i; argument = node_argument nodes i; set = node_set nodes i }) h refl
+  node-fields (Err f) n e = absurd cc
+
+  node-fault : (r : Result Kind Fault) (f : Fault) → node_with nodes i r ≡ Err f → r ≡ Err f
+  node-fault (Ok k) f e = absurd cc
+  node-fault (Err g) f e = cc
+
+module _ (z : Sizes) (states rules nodes numbers leaves : List ℕ) (aim : Aim) (F : Facts) (i : ℕ) (r : Result Node Fault) (e : r ≡ node_of nodes i)
+    (x : Turn) where
   abbrev P : Protocol
   P = protocol_of z states rules
 
@@ -457,86 +456,79 @@ module _ (z : Sizes) (states rules nodes numbers leaves : List ℕ) (aim : Aim) 
   abbrev here : Turn
   here = turn_at z states rules nodes numbers leaves aim F i
 
-  -- The node with the fields of m, and kind k.
+  -- The node with the fields of m, and this number for its kind.
   abbrev of_kind : Node → ℕ → tree.Node
   of_kind m k = get_or (by_kind P H (tree_of z nodes) m.party m.argument m.set) k bad
 
-  by_kind_lem : (k : ℕ) → n.kind ≡ k → x ≡ node_turn P H F (of_kind n k) → x ≡ here
-  unfolding turn_at node
-  by_kind_lem k h d = d ∙ ap (λ (j : ℕ). node_turn P H F (of_kind n j)) (sym h) ∙ ap (λ (m : Node). node_turn P H F (of_kind m m.kind)) e
-
-  pub kind_leaf : n.kind ≡ 0 → x ≡ judged (leaf_fields z n) (closes_for P z numbers leaves aim.whose F n.argument) [] → x ≡ here
-  unfolding by_kind ground children refusal_number
-  kind_leaf k d = by_kind_lem 0 k (d ∙ turn_checked P H F _ (leaf n.argument) refl)
-
-  pub kind_output : n.kind ≡ 1 → x ≡ judged (run_fields aim.runs n) (output_gone z states aim F n.party) [] → x ≡ here
-  unfolding by_kind is_run ground children refusal_number within output_gone
-  kind_output k d = by_kind_lem 1 k (d ∙ turn_checked P H F _ (output_absent n.party) refl)
-
-  pub kind_contradiction : n.kind ≡ 2
-      → x ≡ judged (state_fields z aim.runs n) (F.present n.party n.argument && F.absent n.party n.argument) [] → x ≡ here
-  unfolding by_kind ground children refusal_number
-  kind_contradiction k d = by_kind_lem 2 k (d ∙ turn_checked P H F _ (contradiction n.party n.argument) refl)
-
-  pub kind_disabled : n.kind ≡ 3
-      → x ≡ judged (rule_fields z aim.runs n) true (disabled_children F n.party (rule_p rules n.argument) (rule_q rules n.argument))
-      → x ≡ here
-  unfolding by_kind is_run ground children refusal_number disabled_children
-  kind_disabled k d = by_kind_lem 3 k (d ∙ turn_checked P H F _ (disabled n.party n.argument) refl)
-
-  pub kind_split : n.kind ≡ 4
-      → x ≡ judged (state_fields z aim.runs n) true
-      (with_absent F n.party (eqb n.argument) ∷ with_present F n.party (eqb n.argument) ∷ [])
-      → x ≡ here
-  unfolding by_kind ground children refusal_number
-  kind_split k d = by_kind_lem 4 k (d ∙ turn_checked P H F _ (case_split n.party n.argument) refl)
-
-  kind_trap : n.kind ≡ 5 → x ≡ judged (set_fields z aim.runs n) (set_ground false P F n) (set_child false P F n ∷ []) → x ≡ here
-  unfolding by_kind is_run is_set ground children refusal_number set_ground set_child party_if is_trap_of
-  kind_trap k d = by_kind_lem 5 k (d ∙ turn_checked P H F _ (trap n.party n.set) refl)
-
-  kind_siphon : n.kind ≡ 6 → x ≡ judged (set_fields z aim.runs n) (set_ground true P F n) (set_child true P F n ∷ []) → x ≡ here
-  unfolding by_kind is_run is_set ground children refusal_number set_ground set_child party_if is_trap_of
-  kind_siphon k d = by_kind_lem 6 k (d ∙ turn_checked P H F _ (siphon n.party n.set) refl)
-
-  pub kind_remainder : n.kind ≡ 7
-      → x ≡ judged (remainder_fields z aim.whose n) (closes_modulo_for P z leaves aim.whose n.set F n.argument) [] → x ≡ here
-  unfolding by_kind ground children refusal_number
-  kind_remainder k d = by_kind_lem 7 k (d ∙ turn_checked P H F _ (remainder n.argument n.set) refl)
-
-  -- Kinds 5 and 6: below 7 and none of the kinds before them.
-  pub kind_set : (reversed : Bool) → reversed ≡ eqb n.kind 6 → n.kind < 7 → (n.kind ≡ 0 → ⊥) → (n.kind ≡ 1 → ⊥) → (n.kind ≡ 2 → ⊥)
-      → (n.kind ≡ 3 → ⊥) → (n.kind ≡ 4 → ⊥)
-      → x ≡ judged (set_fields z aim.runs n) (set_ground reversed P F n) (set_child reversed P F n ∷ []) → x ≡ here
-  kind_set reversed r l k0 k1 k2 k3 k4 d =
-      by_test (eqb n.kind 6)
-      (λ t. kind_siphon (eqb-true n.kind 6 t) (rw (r ∙ t) at d))
-      (λ t. kind_trap (five n.kind l k0 k1 k2 k3 k4 (eqb-false n.kind 6 t)) (rw (r ∙ t) at d))
-    where
-      five : (k : ℕ) → k < 7 → (k ≡ 0 → ⊥) → (k ≡ 1 → ⊥) → (k ≡ 2 → ⊥) → (k ≡ 3 → ⊥) → (k ≡ 4 → ⊥) → (k ≡ 6 → ⊥) → k ≡ 5
-      five zero h z0 z1 z2 z3 z4 z6 = absurd (z0 refl)
-      five (suc zero) h z0 z1 z2 z3 z4 z6 = absurd (z1 refl)
-      five (suc (suc zero)) h z0 z1 z2 z3 z4 z6 = absurd (z2 refl)
-      five (suc (suc (suc zero))) h z0 z1 z2 z3 z4 z6 = absurd (z3 refl)
-      five (suc (suc (suc (suc zero)))) h z0 z1 z2 z3 z4 z6 = absurd (z4 refl)
-      five (suc (suc (suc (suc (suc zero))))) h z0 z1 z2 z3 z4 z6 = refl
-      five (suc (suc (suc (suc (suc (suc zero)))))) h z0 z1 z2 z3 z4 z6 = absurd (z6 refl)
-      five (suc (suc (suc (suc (suc (suc (suc k))))))) h z0 z1 z2 z3 z4 z6 = absurd (omega arith)
-
   -- Behind kind 7.
-  pub kind_unknown : 7 ≤ n.kind → (n.kind ≡ 7 → ⊥) → x ≡ judged false true [] → x ≡ here
-  unfolding by_kind node_turn ground refusal_number check
-  kind_unknown l k d = by_kind_lem n.kind refl (d ∙ ap (node_turn P H F) (sym (past n.kind l k)))
+  pub kind_unknown : (f : Fault) → r ≡ Err f → x ≡ refuse (number_of f) → x ≡ here
+  unfolding turn_at node by_kind node_turn ground refusal_number check
+  kind_unknown f d h =
+      let g = node-fault nodes i (kind_of (node_kind nodes i)) f (sym e ∙ d) in
+      h
+      ∙ ap (λ (q : Fault). refuse (number_of q)) (unknown_fields (node_kind nodes i) f g)
+      ∙ ap (node_turn P H F) (sym (past (node_kind nodes i) (unknown-above (node_kind nodes i) f g)))
     where
-      past : (k : ℕ) → 7 ≤ k → (k ≡ 7 → ⊥) → of_kind n k ≡ bad
-      past zero h z = absurd (omega arith)
-      past (suc zero) h z = absurd (omega arith)
-      past (suc (suc zero)) h z = absurd (omega arith)
-      past (suc (suc (suc zero))) h z = absurd (omega arith)
-      past (suc (suc (suc (suc zero)))) h z = absurd (omega arith)
-      past (suc (suc (suc (suc (suc zero))))) h z = absurd (omega arith)
-      past (suc (suc (suc (suc (suc (suc zero)))))) h z = absurd (omega arith)
-      past (suc (suc (suc (suc (suc (suc (suc zero))))))) h z = absurd (z refl)
-      past (suc (suc (suc (suc (suc (suc (suc (suc k)))))))) h z = refl
+      past : (k : ℕ) → 7 < k → get_or (by_kind P H (tree_of z nodes) (node_party nodes i) (node_argument nodes i) (node_set nodes i)) k bad ≡ bad
+      past zero h = absurd (omega arith)
+      past (suc zero) h = absurd (omega arith)
+      past (suc (suc zero)) h = absurd (omega arith)
+      past (suc (suc (suc zero))) h = absurd (omega arith)
+      past (suc (suc (suc (suc zero)))) h = absurd (omega arith)
+      past (suc (suc (suc (suc (suc zero))))) h = absurd (omega arith)
+      past (suc (suc (suc (suc (suc (suc zero)))))) h = absurd (omega arith)
+      past (suc (suc (suc (suc (suc (suc (suc zero))))))) h = absurd (omega arith)
+      past (suc (suc (suc (suc (suc (suc (suc (suc k)))))))) h = refl
 
-pub ruleset kinds = (kind_leaf, kind_output, kind_contradiction, kind_disabled, kind_split, kind_remainder)
+  module _ (n : Node) (d : r ≡ Ok n) where
+    by_kind_lem : (k : Kind) → n.kind ≡ k → x ≡ node_turn P H F (of_kind n (number_of_kind k)) → x ≡ here
+    unfolding turn_at node
+    by_kind_lem k h g =
+        let q : node_of nodes i ≡ Ok n = sym e ∙ d in
+        let same : node_kind nodes i ≡ number_of_kind n.kind = kind_number _ _ (node-kind nodes i _ n q) in
+        g
+        ∙ ap (λ (j : ℕ). node_turn P H F (of_kind n j)) (ap number_of_kind (sym h) ∙ sym same)
+        ∙ ap (λ (m : Node). node_turn P H F (of_kind m (node_kind nodes i))) (node-fields nodes i _ n q)
+
+    pub kind_leaf : n.kind ≡ Leaf → x ≡ judged (leaf_fields z n) (closes_for P z numbers leaves aim.whose F n.argument) [] → x ≡ here
+    unfolding by_kind ground children refusal_number
+    kind_leaf k d = by_kind_lem Leaf k (d ∙ turn_checked P H F _ (leaf n.argument) refl)
+
+    pub kind_output : n.kind ≡ Output → x ≡ judged (run_fields aim.runs n) (output_gone z states aim F n.party) [] → x ≡ here
+    unfolding by_kind is_run ground children refusal_number within output_gone
+    kind_output k d = by_kind_lem Output k (d ∙ turn_checked P H F _ (output_absent n.party) refl)
+
+    pub kind_contradiction : n.kind ≡ Contradiction
+        → x ≡ judged (state_fields z aim.runs n) (F.present n.party n.argument && F.absent n.party n.argument) [] → x ≡ here
+    unfolding by_kind ground children refusal_number
+    kind_contradiction k d = by_kind_lem Contradiction k (d ∙ turn_checked P H F _ (contradiction n.party n.argument) refl)
+
+    pub kind_disabled : n.kind ≡ Disabled
+        → x ≡ judged (rule_fields z aim.runs n) true (disabled_children F n.party (rule_p rules n.argument) (rule_q rules n.argument))
+        → x ≡ here
+    unfolding by_kind is_run ground children refusal_number disabled_children
+    kind_disabled k d = by_kind_lem Disabled k (d ∙ turn_checked P H F _ (disabled n.party n.argument) refl)
+
+    pub kind_split : n.kind ≡ Split
+        → x ≡ judged (state_fields z aim.runs n) true
+        (with_absent F n.party (eqb n.argument) ∷ with_present F n.party (eqb n.argument) ∷ [])
+        → x ≡ here
+    unfolding by_kind ground children refusal_number
+    kind_split k d = by_kind_lem Split k (d ∙ turn_checked P H F _ (case_split n.party n.argument) refl)
+
+    kind_trap : n.kind ≡ Trap → x ≡ judged (set_fields z aim.runs n) (set_ground false P F n) (set_child false P F n ∷ []) → x ≡ here
+    unfolding by_kind is_run is_set ground children refusal_number set_ground set_child party_if is_trap_of
+    kind_trap k d = by_kind_lem Trap k (d ∙ turn_checked P H F _ (trap n.party n.set) refl)
+
+    kind_siphon : n.kind ≡ Siphon → x ≡ judged (set_fields z aim.runs n) (set_ground true P F n) (set_child true P F n ∷ []) → x ≡ here
+    unfolding by_kind is_run is_set ground children refusal_number set_ground set_child party_if is_trap_of
+    kind_siphon k d = by_kind_lem Siphon k (d ∙ turn_checked P H F _ (siphon n.party n.set) refl)
+
+    pub kind_set : (reversed : Bool) → (n.kind ≡ Trap) ⊎ (n.kind ≡ Siphon) → (n.kind ≡ Trap → reversed ≡ false) → (n.kind ≡ Siphon → reversed ≡ true)
+        → x ≡ judged (set_fields z aim.runs n) (set_ground reversed P F n) (set_child reversed P F n ∷ []) → x ≡ here
+    kind_set reversed k f t d = ⊎_elim (λ (q : n.kind ≡ Trap). kind_trap q (rw (f q) at d)) (λ (q : n.kind ≡ Siphon). kind_siphon q (rw (t q) at d)) k
+
+    pub kind_remainder : n.kind ≡ Remainder
+        → x ≡ judged (remainder_fields z aim.whose n) (closes_modulo_for P z leaves aim.whose n.set F n.argument) [] → x ≡ here
+    unfolding by_kind ground children refusal_number
+    kind_remainder k d = by_kind_lem Remainder k (d ∙ turn_checked P H F _ (remainder n.argument n.set) refl)

@@ -1,16 +1,10 @@
--- `page::page_tests` meets its contract: each return is one case of the two tests.
-use Rattle.std.proofs.Common.{rules, arith}
-use Rattle.page.proofs.CodeLaws.{twice_most, tested}
+-- `page::page_tests` meets its contract: test 32, then 33.
+use Rattle.std.proofs.Common.{rules, refl}
+use Rattle.page.proofs.CodeLaws.{groups_refused, results_tested}
 use Rattle.page.proofs.page_tests.Goals as goal
 
-pub returns-then-not_groups : goal.returns-then-not_groups
-returns-then-not_groups c = search (tested, rules)
-
-pub overflow_mul-not_two_each : goal.overflow_mul-not_two_each
-overflow_mul-not_two_each c = omega (arith, twice_most c.args.states c.args.counts c.requires, c.ranges)
-
-pub returns-then-not_two_each : goal.returns-then-not_two_each
-returns-then-not_two_each c = search (tested, rules)
+pub returns-in_err-when : goal.returns-in_err-when
+returns-in_err-when c = groups_refused _ _ c.args.results _ _ refl c.when.ensures _ _ c.in_err-when.was (search rules)
 
 pub returns : goal.returns
-returns c = search (tested, rules)
+returns c = results_tested _ _ _ _ _ refl c.when.ensures c.in_ok-when.was _ refl _ c.when-2.ensures

@@ -1,16 +1,10 @@
 -- `page::put_result` meets its contract: two numbers are written, by the case of the run.
-use Rattle.std.proofs.Common.{rules}
-use Rattle.page.proofs.CodeLaws.{second_fits, put_ran, put_refused}
+use Rattle.std.proofs.Common.{rules, refl}
+use Rattle.page.proofs.CodeLaws.{put_ran, put_refused}
 use Rattle.page.proofs.put_result.Goals as goal
 
-pub bounds-results-second : goal.bounds-results-second
-bounds-results-second c = search (second_fits, rules)
+pub returns-in-Ok : goal.returns-in-Ok
+returns-in-Ok c = put_ran _ _ _ _ c.requires refl refl _ _ _ c.in-Ok.is c.doubled.ensures
 
-pub bounds-results-second-in-Refused : goal.bounds-results-second-in-Refused
-bounds-results-second-in-Refused c = search (second_fits, rules)
-
-pub returns-in-After : goal.returns-in-After
-returns-in-After c = search (put_ran, rules)
-
-pub returns-in-Refused : goal.returns-in-Refused
-returns-in-Refused c = search (put_refused, rules)
+pub returns-in-Err : goal.returns-in-Err
+returns-in-Err c = put_refused _ _ _ _ c.requires refl refl _ _ _ c.in-Err.is (search rules)

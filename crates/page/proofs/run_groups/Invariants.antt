@@ -1,11 +1,7 @@
 -- `page::run_groups` meets its contract: the parts of the groups that have been run hold what is made of them, the others are as
 -- they were.
-use Rattle.std.proofs.Common.{◌-◌}
 use Rattle.page.specs.Code.{RunUpTo}
 use Rattle.page.proofs.run_groups.Given as goal
 
 abbrev pub invariant-loop-g : goal.invariant-loop-g
-invariant-loop-g l = RunUpTo l.docket l.h l.limit l.initial.counts l.initial.results l.g l.counts l.results
-
-abbrev pub decreases-loop-g : goal.decreases-loop-g
-decreases-loop-g l = l.groups - l.g
+invariant-loop-g l = RunUpTo l.docket.bytes.now l.docket.header l.limit l.initial.counts l.initial.results l.g l.counts l.results

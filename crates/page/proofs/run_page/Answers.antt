@@ -1,20 +1,39 @@
 -- `page::run_page` meets its contract: a refusal is passed back and leaves both buffers; else all groups are run.
-use Rattle.std.proofs.Common.{rules}
-use Rattle.shape.proofs.SoundLaws.{sound_at}
-use Rattle.page.proofs.CodeLaws.{answers}
+use Rattle.std.specs.Prelude.{Err}
+use Rattle.std.proofs.Common.{rules, ◌≡◌, sym, ◌∙◌}
+use Rattle.shape.proofs.SoundLaws.{docket_sound}
+use Rattle.page.specs.Page.{page_of}
+use Rattle.page.proofs.CodeLaws.{kept-counts, kept-results, shape_answer, tests_answer, has_room, done_answer, done_counts, done_results}
 use Rattle.page.proofs.run_page.Goals as goal
 
-pub returns-in_default : goal.returns-in_default
-returns-in_default c = search (answers, rules)
+pub page_tests-requires : goal.page_tests-requires
+page_tests-requires c = (docket_sound c.in-Ok.docket).limits.states_least
 
-pub page_tests-tested-requires : goal.page_tests-tested-requires
-page_tests-tested-requires c = search (answers, rules)
+pub returns-in_err-page_tests-in-Ok : goal.returns-in_err-page_tests-in-Ok
+returns-in_err-page_tests-in-Ok c =
+    let said : Err c.in_err-page_tests-in-Ok.field-0.0 ≡ page_of c.args.docket.now c.args.counts.now c.args.results.now =
+    sym c.in_err-page_tests-in-Ok.was ∙ tests_answer _ _ _ _ c.read_shape.ensures.shape c.in-Ok.docket c.in-Ok.is _ c.page_tests.ensures in
+    let e : c.from_residual.result ≡ Err c.in_err-page_tests-in-Ok.field-0.0 = search rules in
+    record { answer = e ∙ said; counts = kept-counts _ _ _ _ _ said; results = kept-results _ _ _ _ _ said }
 
 pub run_groups-requires : goal.run_groups-requires
-run_groups-requires c = search (sound_at, answers, rules)
+run_groups-requires c =
+    record { room = has_room _ _ _ _ c.read_shape.ensures.shape c.in-Ok.docket c.in-Ok.is _ c.page_tests.ensures c.in_ok-page_tests-in-Ok.was }
 
-pub returns-in-Passed : goal.returns-in-Passed
-returns-in-Passed c = search (answers, rules)
+pub returns-in_ok-page_tests-in-Ok : goal.returns-in_ok-page_tests-in-Ok
+returns-in_ok-page_tests-in-Ok c =
+    let ran = c.run_groups.ensures in
+    record {
+      answer = done_answer _ _ _ _ c.read_shape.ensures.shape c.in-Ok.docket c.in-Ok.is _ c.page_tests.ensures c.in_ok-page_tests-in-Ok.was;
+      counts =
+          done_counts _ _ _ _ c.read_shape.ensures.shape c.in-Ok.docket c.in-Ok.is _ c.page_tests.ensures c.in_ok-page_tests-in-Ok.was
+          (search rules) _ _ ran.counts;
+      results =
+          done_results _ _ _ _ c.read_shape.ensures.shape c.in-Ok.docket c.in-Ok.is _ c.page_tests.ensures c.in_ok-page_tests-in-Ok.was
+          (search rules) _ _ ran.results;
+    }
 
-pub returns-in-Failed : goal.returns-in-Failed
-returns-in-Failed c = search (answers, rules)
+pub returns-in-Err : goal.returns-in-Err
+returns-in-Err c =
+    let said = shape_answer _ c.args.counts.now c.args.results.now _ c.read_shape.ensures.shape _ c.in-Err.is in
+    record { answer = said; counts = kept-counts _ _ _ _ _ said; results = kept-results _ _ _ _ _ said }

@@ -1,5 +1,5 @@
 -- `shape::first_again` meets its contract: no rule below `i` is like an earlier one, and all of them are marked.
-use Rattle.std.proofs.Common.{◌≡◌, ◌≤◌, ◌-◌, length}
+use Rattle.std.proofs.Common.{◌≡◌, length}
 use Rattle.theory.specs.Below.{Clear}
 use Rattle.shape.specs.Code.{again, mark_of}
 use Rattle.shape.proofs.MarkLaws.{Marked}
@@ -7,7 +7,4 @@ use Rattle.shape.proofs.first_again.Given as goal
 
 abbrev pub invariant-loop-i : goal.invariant-loop-i
 invariant-loop-i l =
-    (l.i ≤ l.n) × (length l.marks ≡ 64) × Clear (again l.rules l.whole) l.i × Marked (mark_of l.rules l.whole) l.marks l.i
-
-abbrev pub decreases-loop-i : goal.decreases-loop-i
-decreases-loop-i l = l.n - l.i
+    (length l.marks ≡ 64) × Clear (again l.rules l.whole) l.i × Marked (mark_of l.rules l.whole) l.marks l.i

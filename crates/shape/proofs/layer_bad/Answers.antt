@@ -1,4 +1,4 @@
--- `shape::layer_bad` meets its contract: the search finds a weight just where there is one.
+-- `shape::layer_bad` meets its contract.
 use Rattle.std.proofs.Common.{rules}
 use Rattle.shape.proofs.ShapeLaws.{layer_found}
 use Rattle.shape.proofs.layer_bad.Goals as goal

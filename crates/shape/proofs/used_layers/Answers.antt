@@ -4,7 +4,7 @@ use Rattle.shape.proofs.MarkLaws.{used_none, used_more, used_done}
 use Rattle.shape.proofs.used_layers.Goals as goal
 
 pub loop-r-init : goal.loop-r-init
-loop-r-init c = (search rules, used_none _)
+loop-r-init c = used_none _
 
 pub loop-r-preserved : goal.loop-r-preserved
 loop-r-preserved c = search (used_more, rules)

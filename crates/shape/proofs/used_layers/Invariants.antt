@@ -1,11 +1,8 @@
 -- `shape::used_layers` meets its contract: the layers of the rules below `r` are in the set.
-use Rattle.std.proofs.Common.{◌≤◌, ◌-◌, ◌≡◌}
+use Rattle.std.proofs.Common.{◌≡◌}
 use Rattle.theory.specs.Bool.{member}
 use Rattle.shape.specs.Code.{used_below}
 use Rattle.shape.proofs.used_layers.Given as goal
 
 abbrev pub invariant-loop-r : goal.invariant-loop-r
-invariant-loop-r l = (l.r ≤ l.z.rules) × (member l.used ≡ used_below l.rules l.r)
-
-abbrev pub decreases-loop-r : goal.decreases-loop-r
-decreases-loop-r l = l.z.rules - l.r
+invariant-loop-r l = member l.used ≡ used_below l.rules l.r

@@ -1,11 +1,10 @@
 -- Each return is a case of the definition.
 use Rattle.std.proofs.Common.{rules}
-use Rattle.std.proofs.lemmas.Bool.{not-true, not-false}
 use Rattle.share.specs.Code.Laws.{counting}
 use Rattle.share.proofs.known_agents.Goals as goal
 
-pub returns-then-not-exactly : goal.returns-then-not-exactly
-returns-then-not-exactly c = search (counting, not-true, not-false, rules)
+pub returns-then-exactly : goal.returns-then-exactly
+returns-then-exactly c = search (counting, rules)
 
-pub returns : goal.returns
-returns c = search (counting, not-true, not-false, rules)
+pub returns-else-exactly : goal.returns-else-exactly
+returns-else-exactly c = search (counting, rules)

@@ -1,14 +1,13 @@
 -- The parts of the leaf rule and of the remainder rule put together. Assumes nothing.
-use Rattle.std.specs.Prelude.{◌≡◌, refl, Bool, false, not, ◌&&◌, ◌||◌, ℕ, zero, suc, ◌+◌, ◌-◌, ◌*◌, ◌%◌, ◌≤◌, ◌<◌, ltb, eqb}
-use Rattle.std.proofs.Common.{sym, ap, ◌∙◌, mul-zero, mul-le-mul}
+use Rattle.std.specs.Prelude.{◌≡◌, ◌↔◌, IsTrue, refl, Bool, false, not, ◌&&◌, ◌||◌, ℕ, zero, suc, ◌+◌, ◌-◌, ◌*◌, ◌%◌, ◌≤◌, ◌<◌, ltb}
+use Rattle.std.proofs.Common.{sym, ap, ◌∙◌, mul-zero}
 use Rattle.std.proofs.Math.Path.{fun_ext}
 use Rattle.std.proofs.Math.Bool.{true, and_assoc, and-false, or-true}
-use Rattle.std.proofs.Math.Nat.{zero-mod, mod-zero}
 use native.Mathlib.Omega.{arith}
 use Rattle.std.proofs.Math.Dec.{leb}
 use borrow.Author.Tests.{lt-ltb, le-ltb, leb-true, leb-false, le-leb, lt-leb, eq-eqb, ne_eqb}
 use Rattle.theory.specs.Bool.{member, bit}
-use Rattle.theory.proofs.Bool.Laws.{by_test}
+use Rattle.theory.proofs.Bool.Laws.{by_test, not_both}
 use Rattle.theory.specs.Below.{all_below, sum_below}
 use Rattle.theory.proofs.Below.Laws.{sum_add}
 use Rattle.theory.specs.Protocol.{Protocol, only_fixed}
@@ -27,18 +26,12 @@ use Rattle.share.specs.declared.Share.{Share}
 
 -- ---- The same modulo m
 
--- d is how far a and b are apart.
-module _ (m a b d : ℕ) (h : d ≡ (a - b) + (b - a)) where
-  pub same_equal : d ≡ 0 → true ≡ congruent m a b
-  same_equal e = rw (congruent_apart m a b d h, e, zero-mod)
-
-  pub same_none : (d ≡ 0 → ⊥) → m ≡ 0 → false ≡ congruent m a b
-  same_none n e = rw (congruent_apart m a b d h, e, mod-zero, ne_eqb d 0 n)
-
-  pub same_divides : eqb (d % m) 0 ≡ congruent m a b
-  same_divides = sym (congruent_apart m a b d h)
-
-pub ruleset sameness = (same_equal, same_none, same_divides)
+-- d is how far a and b are apart, and t says whether m divides it.
+pub same_is : (m a b d : ℕ) (t : Bool) → d ≡ (a - b) + (b - a) → IsTrue t ↔ (d % m ≡ 0) → t ≡ congruent m a b
+same_is m a b d t h e =
+    by_test t
+    (λ y. y ∙ sym (eq-eqb (d % m) 0 (e.0 y)) ∙ sym (congruent_apart m a b d h))
+    (λ n. n ∙ sym (ne_eqb (d % m) 0 (λ z. not_both (e.1 z) n)) ∙ sym (congruent_apart m a b d h))
 
 -- ---- By sums, or by remainders
 
@@ -78,19 +71,6 @@ second_breaks P (ByRemainders m) F w e = rw (e, and-false)
 
 -- ---- One state
 
--- What counts for nothing, what does not exceed, and what does.
-module _ (t : Bool) (a b : ℕ) where
-  pub excess_uncounted : t ≡ false → Value (a + 1) (bit t * (a - b)) 0
-  excess_uncounted e = rw e (record { is = omega arith; small = omega arith })
-
-  pub excess_none : a < b → Value (a + 1) (bit t * (a - b)) 0
-  excess_none h = let e : a - b ≡ 0 = omega arith in rw e (record { is = omega arith; small = omega arith })
-
-  pub excess_is : t ≡ true → b ≤ a → Value (a + 1) (bit t * (a - b)) (a - b)
-  excess_is e h = rw e (record { is = omega arith; small = omega arith })
-
-pub ruleset excesses = (excess_uncounted, excess_none, excess_is)
-
 -- The share with these numbers.
 abbrev pub share : Bool → ℕ → ℕ → Share
 share t g l = record { allowed = t; gains = g; losses = l }
@@ -99,42 +79,19 @@ nothing : (b : Bool) (m n : ℕ) → m ≤ n → bit b * (m - n) ≡ 0
 nothing true m n h = omega arith
 nothing false m n h = omega arith
 
--- A state that joins a sum n times.
-module _ (t : Bool) (n b y : ℕ) (f : n < 65536) where
-  pub joined_small : (m : ℕ) → m ≤ b + y → n * m ≤ 65536 * (b + y)
-  joined_small m l =
-      let n' : n ≤ 65536 = omega arith in
-      mul-le-mul n' l
-
-  pub joined_over : b < y → ShareIs (65536 * (b + y)) (joined_of t n b y) (share t 0 (n * (y - b)))
-  joined_over h =
-      let e : b - y ≡ 0 = omega arith in
-      record { is = rw (e, mul-zero n); gains_most = omega arith; losses_most = joined_small (y - b) (omega arith) }
-
-  pub joined_under : y ≤ b → ShareIs (65536 * (b + y)) (joined_of t n b y) (share t (n * (b - y)) 0)
-  joined_under h =
-      let e : y - b ≡ 0 = omega arith in
-      record { is = rw (e, mul-zero n); gains_most = joined_small (b - y) (omega arith); losses_most = omega arith }
-
-pub ruleset joining = (joined_over, joined_under)
-
 -- How often a state joins, by its fixed agents.
 module _ (k : Known) (f : Fixed) (s : ℕ) where
-  pub times_none : (t : Bool) → f.agents ≤ 0 → t ≡ member k.present s → t ≡ false → 0 ≡ times_of k f s
+  pub times_loose : (t : Bool) (n : ℕ) → f.agents ≡ 0 → t ≡ member k.present s → n ≡ bit t → n ≡ times_of k f s
   unfolding times_of
-  times_none t l h e = rw (le-ltb 0 f.agents l, ← h, e)
+  times_loose t n l h e = rw (le-ltb 0 f.agents (omega arith), ← h) e
 
-  pub times_once : (t : Bool) → f.agents ≤ 0 → t ≡ member k.present s → t ≡ true → 1 ≡ times_of k f s
+  pub times_absent : (t : Bool) → (f.agents ≡ 0 → ⊥) → t ≡ member k.absent s → t ≡ true → 0 ≡ times_of k f s
   unfolding times_of
-  times_once t l h e = rw (le-ltb 0 f.agents l, ← h, e)
+  times_absent t l h e = rw (lt-ltb 0 f.agents (omega arith), ← h, e) (omega arith)
 
-  pub times_absent : (t : Bool) → 0 < f.agents → t ≡ member k.absent s → t ≡ true → 0 ≡ times_of k f s
+  pub times_fixed : (t : Bool) → (f.agents ≡ 0 → ⊥) → t ≡ member k.absent s → t ≡ false → f.agents ≡ times_of k f s
   unfolding times_of
-  times_absent t l h e = rw (lt-ltb 0 f.agents l, ← h, e) (omega arith)
-
-  pub times_fixed : (t : Bool) → 0 < f.agents → t ≡ member k.absent s → t ≡ false → f.agents ≡ times_of k f s
-  unfolding times_of
-  times_fixed t l h e = rw (lt-ltb 0 f.agents l, ← h, e) (omega arith)
+  times_fixed t l h e = rw (lt-ltb 0 f.agents (omega arith), ← h, e) (omega arith)
 
   pub known_none : (t : Bool) → t ≡ member k.absent s → not t && f.only ≡ false → 0 ≡ known_of k f s
   unfolding known_of
@@ -144,7 +101,7 @@ module _ (k : Known) (f : Fixed) (s : ℕ) where
   unfolding known_of
   known_fixed t h e = rw (← h, e) (omega arith)
 
-pub ruleset counting = (times_none, times_once, times_absent, times_fixed, known_none, known_fixed)
+pub ruleset counting = (times_loose, times_absent, times_fixed, known_none, known_fixed)
 
 module _ (k : Known) (s y : ℕ) where
   -- The state joins n times, and its share is x.
@@ -209,17 +166,18 @@ module _ (k : Known) (s y : ℕ) where
 
 pub ruleset sharing = (start_is, end_over, end_absent, end_below_lem, remainder_start, remainder_end)
 
--- The shares p, q, r at the start and at the ends are put together in t.
-module _ (by : Closing) (f : Fixed) (a b c : Known) (s x y i j k : ℕ) (p q r t : Share) (h : ShareIs 68719476736 (sum_of p q r) t) where
-  pub share_sums : by ≡ BySums → ShareIs i (start_share a f s 20000 (x + y)) p → ShareIs j (end_share b s x) q → ShareIs k (end_share c s y) r
+-- The shares p, q, r at the start and at the ends are put together in t; v and w are the weights x and y.
+module _ (by : Closing) (f : Fixed) (a b c : Known) (s x y v w i j k : ℕ) (p q r t : Share) (ev : v ≡ x) (ew : w ≡ y)
+    (h : ShareIs 68719476736 (sum_of p q r) t) where
+  pub share_sums : by ≡ BySums → ShareIs i (start_share a f s 20000 (v + w)) p → ShareIs j (end_share b s v) q → ShareIs k (end_share c s w) r
       → ShareIs 68719476736 (share_by by f a b c s x y) t
   unfolding share_by
-  share_sums e hp hq hr = rw (e, ← hp.is, ← hq.is, ← hr.is) h
+  share_sums e hp hq hr = rw (e, ← ev, ← ew, ← hp.is, ← hq.is, ← hr.is) h
 
-  pub share_remainders : (m : ℕ) → by ≡ ByRemainders m → ShareIs i (start_remainder m a f s (x + y)) p → ShareIs j (end_remainder m b s x) q
-      → ShareIs k (end_remainder m c s y) r → ShareIs 68719476736 (share_by by f a b c s x y) t
+  pub share_remainders : (m : ℕ) → by ≡ ByRemainders m → ShareIs i (start_remainder m a f s (v + w)) p → ShareIs j (end_remainder m b s v) q
+      → ShareIs k (end_remainder m c s w) r → ShareIs 68719476736 (share_by by f a b c s x y) t
   unfolding share_by
-  share_remainders m e hp hq hr = rw (e, ← hp.is, ← hq.is, ← hr.is) h
+  share_remainders m e hp hq hr = rw (e, ← ev, ← ew, ← hp.is, ← hq.is, ← hr.is) h
 
 pub ruleset summing = (share_sums, share_remainders)
 

@@ -1,9 +1,9 @@
 -- The code's returns follow the definition of the sheet's check. Assumes nothing.
-use Rattle.std.specs.Prelude.{◌≡◌, refl, Bool, true, false, cond, ℕ, ◌+◌, ◌≤◌, ◌<◌, eqb}
+use Rattle.std.specs.Prelude.{◌≡◌, refl, Bool, true, false, cond, ℕ, ◌+◌, ◌≤◌, ◌<◌, eqb, Result, Ok, Err}
 use Rattle.std.proofs.Math.Path.{sym, ap, fun_ext}
 use Rattle.std.proofs.Common.{◌∙◌, arith}
 use mathlib.Core.List.{List, []}
-use Rattle.theory.proofs.Judge.Laws.{only_hit, only_pass, judge_done}
+use Rattle.theory.proofs.Judge.Laws.{only_refuses, only_passes, judge_done}
 use Rattle.theory.specs.Protocol.{Protocol}
 use Rattle.theory.specs.Tree.{Walked, next, refused, tree_answer}
 use Rattle.theory.proofs.Subtree.Laws.{tree_fails, place-within}
@@ -12,28 +12,26 @@ use Rattle.theory.specs.Sheet.{Sheet, at_least, at_most, counterexample, first_w
 use Rattle.format.specs.Format.{header_of, sections_of, protocol_of, tree_of}
 use Rattle.format.specs.declared.Header.{Header}
 use Rattle.format.specs.declared.Sizes.{Sizes}
-use Rattle.shape.specs.Shape.{refusal}
-use Rattle.shape.specs.Code.{SoundRules}
-use Rattle.shape.specs.declared.Refusal.{Refusal}
+use Rattle.refusals.specs.Refusal.{Refusal, refusal}
+use Rattle.refusals.specs.Code.{refused_if}
+use Rattle.shape.specs.Shape.{shape_of}
+use Rattle.shape.specs.Code.{SoundRules, header_in}
+use Rattle.shape.specs.declared.sound.Docket.{Docket}
+use Rattle.shape.proofs.SoundLaws.{docket_sound}
 use Rattle.threshold.specs.Numbers.{sheet_limit}
 use Rattle.threshold.specs.Code.{closes_for, moduli_for, closes_modulo_for}
 use Rattle.threshold.specs.declared.Leaves.TheVariants.{OfSheet}
 use Rattle.threshold.specs.declared.Threshold.{Threshold}
 use Rattle.node.specs.Code.{assumption_of}
 use Rattle.node.specs.declared.Aim.{Aim}
-use Rattle.tree.specs.Code.{walked_of, refusal_of, AimsAt}
-use Rattle.tree.specs.declared.Walk.{Walk}
-use Rattle.tree.specs.declared.Walk.TheVariants as walk
-use Rattle.checker.specs.Check.{check_of, on_accepted}
-use Rattle.checker.specs.declared.Checked.{Checked}
-use Rattle.checker.specs.declared.Checked.TheVariants as checked
+use Rattle.tree.specs.Code.{walked_of, AimsAt}
+use Rattle.checker.specs.Check.{check_of, on_accepted, sections_check}
+use Rattle.checker.specs.Check.Laws.{certified_check, refused_check}
 use Rattle.checker.specs.declared.Summary.{Summary}
 use Rattle.sheetshape.specs.SheetShape.{sheet_header, numbers_in, first_nodes, second_nodes, leaves_in, sheet_fault}
 use Rattle.sheetshape.specs.declared.SheetHeader.{SheetHeader}
 use Rattle.sheet.specs.Sheet.{tree_sizes, sheet_in, walked_sheet, sheet_check, check_sheet_of}
 use Rattle.sheet.specs.Code.{threshold_for, walk_for}
-use Rattle.sheet.specs.declared.SheetChecked.{SheetChecked}
-use Rattle.sheet.specs.declared.SheetChecked.TheVariants.{Accepted, Refused}
 
 -- ---- One tree
 
@@ -106,62 +104,74 @@ module _ (z zt : Sizes) (states rules y nodes numbers leaves : List ℕ) (k : Sh
 
 -- ---- Both trees
 
-module _ (P : Protocol) (Z : Sheet) (a : Walk) (ea : walked_of a ≡ first_walk P Z) where
-  pub stopped_first : (q r : Refusal) (c : SheetChecked) → a ≡ walk.Refused q → r ≡ refusal_of a → c ≡ Refused r → c ≡ walked_sheet (sheet_answer P Z)
-  stopped_first q r c u p g =
-      g ∙ ap Refused (p ∙ ap refusal_of u) ∙ ap walked_sheet (sym (first_refused P Z q.number q.place (sym ea ∙ ap walked_of u)))
+module _ (P : Protocol) (Z : Sheet) (a : Result ℕ Refusal) (ea : walked_of a ≡ first_walk P Z) where
+  pub stopped_first : (r : Refusal) (c : Result (Unit {0}) Refusal) → a ≡ Err r → c ≡ Err r → c ≡ walked_sheet (sheet_answer P Z)
+  stopped_first r c u g = g ∙ ap walked_sheet (sym (first_refused P Z r.number r.place (sym ea ∙ ap walked_of u)))
 
-  module _ (i : ℕ) (ua : a ≡ walk.Next i) (b : Walk) (eb : walked_of b ≡ second_walk P Z) where
+  module _ (i : ℕ) (ua : a ≡ Ok i) (b : Result ℕ Refusal) (eb : walked_of b ≡ second_walk P Z) where
     first_next : first_walk P Z ≡ next i
     first_next = sym ea ∙ ap walked_of ua
 
-    pub second-place : (q r : Refusal) → b ≡ walk.Refused q → r ≡ refusal_of b → Z.second.nodes < 65536 → r.place ≤ 65535
-    second-place q r u p l =
-        let e : second_walk P Z ≡ refused q.number q.place = sym eb ∙ ap walked_of u in
-        let w = place-within P _ Z.second q.number q.place ((tree_fails P _ Z.second q.number q.place).0 e) in
-        let s : r.place ≡ q.place = ap (λ (x : Refusal). x.place) (p ∙ ap refusal_of u) in
+    pub second-place : (r : Refusal) → b ≡ Err r → Z.second.nodes < 65536 → r.place < 65536
+    second-place r u l =
+        let e : second_walk P Z ≡ refused r.number r.place = sym eb ∙ ap walked_of u in
+        let w = place-within P _ Z.second r.number r.place ((tree_fails P _ Z.second r.number r.place).0 e) in
         omega arith
 
-    pub stopped_second : (q r x : Refusal) (n : ℕ) (c : SheetChecked) → b ≡ walk.Refused q → r ≡ refusal_of b → x ≡ refusal r.number (n + r.place)
-        → n ≡ Z.first.nodes → c ≡ Refused x → c ≡ walked_sheet (sheet_answer P Z)
-    stopped_second q r x n c u p h en g =
-        let same : r ≡ q = p ∙ ap refusal_of u in
-        let on : x ≡ refusal q.number (Z.first.nodes + q.place) = rw (← same, ← en) h in
-        g ∙ ap Refused on ∙ ap walked_sheet (sym (then_refused P Z i q.number q.place first_next (sym eb ∙ ap walked_of u)))
+    pub stopped_second : (r x : Refusal) (n : ℕ) (c : Result (Unit {0}) Refusal) → b ≡ Err r → x ≡ refusal r.number (n + r.place)
+        → n ≡ Z.first.nodes → c ≡ Err x → c ≡ walked_sheet (sheet_answer P Z)
+    stopped_second r x n c u h en g =
+        let on : x ≡ refusal r.number (Z.first.nodes + r.place) = rw (← en) h in
+        g ∙ ap Err on ∙ ap walked_sheet (sym (then_refused P Z i r.number r.place first_next (sym eb ∙ ap walked_of u)))
 
-    pub both_stand : (j : ℕ) (c : SheetChecked) → b ≡ walk.Next j → c ≡ Accepted → c ≡ walked_sheet (sheet_answer P Z)
+    pub both_stand : (j : ℕ) (c : Result (Unit {0}) Refusal) → b ≡ Ok j → c ≡ Ok tt → c ≡ walked_sheet (sheet_answer P Z)
     both_stand j c u g = g ∙ ap walked_sheet (sym (then_next P Z i j first_next (sym eb ∙ ap walked_of u)))
 
 pub ruleset walking = (stopped_first, stopped_second, both_stand)
 
 -- ---- The check
 
-module _ (b : List ℕ) (h : Header) (states rules y : List ℕ) (k : SheetHeader) (t : Bool) (c : SheetChecked) (es : states ≡ (sections_of b h).states)
-    (ek : k ≡ sheet_header y) (et : t ≡ sheet_fault h.sizes states y k) where
-  pub fault_refused : t ≡ true → c ≡ Refused (refusal 15 0) → c ≡ sheet_check h.sizes (sections_of b h) y
-  unfolding sheet_check
-  fault_refused u g = only_hit (λ n j. Refused (refusal n j)) _ c 15 _ t [] (et ∙ rw (es, ek)) u g
+module _ (d : Docket) (states rules y : List ℕ) (k : SheetHeader) (t : Bool) (c x : Result (Unit {0}) Refusal) (es : states ≡ (sections_of d.bytes.now d.header).states)
+    (ek : k ≡ sheet_header y) (et : t ≡ sheet_fault d.header.sizes states y k) (ex : x ≡ refused_if 15 t) where
+  same_fault : t ≡ sheet_fault d.header.sizes (sections_of d.bytes.now d.header).states y (sheet_header y)
+  same_fault = et ∙ rw (es, ek)
 
-  pub trees_checked : t ≡ false → rules ≡ (sections_of b h).rules
-      → c ≡ walked_sheet (sheet_answer (protocol_of h.sizes states rules) (sheet_in h.sizes y k))
-      → c ≡ sheet_check h.sizes (sections_of b h) y
+  pub fault_refused : (r : Refusal) → x ≡ Err r → c ≡ Err r → c ≡ sheet_check d.header.sizes (sections_of d.bytes.now d.header) y
+  unfolding sheet_check
+  fault_refused r u g = only_refuses refusal _ c 15 _ [] x t ex same_fault r u g
+
+  pub trees_checked : x ≡ Ok tt → rules ≡ (sections_of d.bytes.now d.header).rules
+      → c ≡ walked_sheet (sheet_answer (protocol_of d.header.sizes states rules) (sheet_in d.header.sizes y k))
+      → c ≡ sheet_check d.header.sizes (sections_of d.bytes.now d.header) y
   unfolding sheet_check
   trees_checked u er g =
-      only_pass (λ n j. Refused (refusal n j)) _ c 15 _ t [] (et ∙ rw (es, ek)) u (judge_done _ _ c (g ∙ rw (es, er, ek)))
+      only_passes refusal _ c 15 _ [] x t ex same_fault u (judge_done _ _ c (g ∙ rw (es, er, ek)))
 
 pub ruleset checking = (fault_refused, trees_checked)
 
-module _ (b y : List ℕ) (a : Checked) (e : a ≡ check_of b) (c : SheetChecked) where
-  pub sheet-follows : (f : Summary) (h : Header) → a ≡ checked.Accepted f → h ≡ header_of b → c ≡ sheet_check h.sizes (sections_of b h) y
-      → c ≡ check_sheet_of b y
+-- The docket d has the bytes b, and its check says a.
+module _ (d : Docket) (b y : List ℕ) (a : Result Summary Refusal) (e : a ≡ sections_check d.header.sizes (sections_of d.bytes.now d.header))
+    (q : d.bytes.now ≡ b) (c : Result (Unit {0}) Refusal) where
+  pub sheet-follows : (f : Summary) → a ≡ Ok f → c ≡ sheet_check d.header.sizes (sections_of d.bytes.now d.header) y → c ≡ check_sheet_of b y
   unfolding check_sheet_of
-  sheet-follows f h u q g =
+  sheet-follows f u g =
+      rw (← q)
+      (g
+      ∙ ap (λ (i : Header). sheet_check i.sizes (sections_of d.bytes.now i) y) (docket_sound d).header
+      ∙ sym (ap (on_accepted Err (sheet_check (header_of d.bytes.now).sizes (sections_of d.bytes.now (header_of d.bytes.now)) y))
+      (certified_check d d.bytes.now a e refl ∙ u)))
+
+  pub docket_refused : (r : Refusal) → a ≡ Err r → c ≡ Err r → c ≡ check_sheet_of b y
+  unfolding check_sheet_of
+  docket_refused r u g =
       g
-      ∙ ap (λ (i : Header). sheet_check i.sizes (sections_of b i) y) q
-      ∙ sym (ap (on_accepted Refused (sheet_check (header_of b).sizes (sections_of b (header_of b)) y)) (sym e ∙ u))
+      ∙ sym (ap (on_accepted Err (sheet_check (header_of b).sizes (sections_of b (header_of b)) y)) (certified_check d b a e q ∙ u))
 
-  pub docket_refused : (r : Refusal) → a ≡ checked.Refused r → c ≡ Refused r → c ≡ check_sheet_of b y
-  unfolding check_sheet_of
-  docket_refused r u g = g ∙ sym (ap (on_accepted Refused (sheet_check (header_of b).sizes (sections_of b (header_of b)) y)) (sym e ∙ u))
+-- Bytes of no docket of sound shape.
+pub shape_refused : (b y : List ℕ) (s : Result Docket Refusal) (r : Refusal) (c : Result (Unit {0}) Refusal) → header_in s ≡ shape_of b → s ≡ Err r
+    → c ≡ Err r → c ≡ check_sheet_of b y
+unfolding check_sheet_of
+shape_refused b y s r c e u g =
+    g ∙ sym (ap (on_accepted Err (sheet_check (header_of b).sizes (sections_of b (header_of b)) y)) (refused_check b s r e u))
 
-pub ruleset following = (sheet-follows, docket_refused)
+pub ruleset following = (docket_refused, shape_refused)

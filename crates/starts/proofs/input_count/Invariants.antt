@@ -1,10 +1,7 @@
 -- `starts::input_count` meets its contract: the inputs below s are counted.
-use Rattle.std.proofs.Common.{◌≡◌, ◌≤◌, ◌-◌}
+use Rattle.std.proofs.Common.{◌≡◌, ◌≤◌}
 use Rattle.starts.specs.Code.{inputs_below}
 use Rattle.starts.proofs.input_count.Given as goal
 
 abbrev pub invariant-loop-s : goal.invariant-loop-s
-invariant-loop-s l = (l.s ≤ l.z.states) × (l.n ≤ l.s) × (l.n ≡ inputs_below l.z l.states l.s)
-
-abbrev pub decreases-loop-s : goal.decreases-loop-s
-decreases-loop-s l = l.z.states - l.s
+invariant-loop-s l = (l.n ≤ l.s) × (l.n ≡ inputs_below l.fn.z l.states l.s)

@@ -1,16 +1,7 @@
--- `starts::next_input` meets its contract: no state from `from` on, and below s, is an input.
-use Rattle.std.proofs.Common.{rules}
-use Rattle.starts.specs.Code.Laws.{scanning}
+-- `starts::next_input` meets its contract: the search finds the first input, or none.
+use Rattle.std.proofs.Common.{refl, rules}
+use Rattle.starts.specs.Code.Laws.{found_from}
 use Rattle.starts.proofs.next_input.Goals as goal
 
-pub loop-s-init : goal.loop-s-init
-loop-s-init c = search (scanning, rules)
-
-pub returns-then-is_input : goal.returns-then-is_input
-returns-then-is_input c = search (scanning, rules)
-
-pub loop-s-preserved : goal.loop-s-preserved
-loop-s-preserved c = search (scanning, rules)
-
 pub returns : goal.returns
-returns c = search (scanning, rules)
+returns c = found_from _ _ _ _ _ _ c.find.result c.find.ensures.ran refl c.requires (λ x b q k. search rules) _ c.unwrap_or.ensures

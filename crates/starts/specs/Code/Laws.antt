@@ -1,10 +1,18 @@
 -- What the functions on starts need: scans from a state on and back from one, the counts that they write. Assumes nothing.
-use Rattle.std.specs.Prelude.{◌≡◌, Bool, true, false, List, [], length, ltb}
+use Rattle.std.specs.Prelude.{◌≡◌, Bool, true, false, List, [], length, ltb, Option, Some, None}
+use Rattle.std.specs.Bool.{⊤}
+use Rattle.std.specs.Option.{MatchOption, unwrap_or}
+use Rattle.std.specs.Iterator.{YieldsThen}
+use Rattle.std.specs.List.{FoldsTo}
+use Rattle.std.specs.Fn.{CalledAt}
+use Rattle.std.proofs.lemmas.Iterator.{first_from_Range}
+use Rattle.std.proofs.iter.Yields.{nat_range_steps}
+use Rattle.std.specs.declared.ops.Range.{Range}
+use denote.Param.Members.{Mut}
+use denote.Ref.{Bor}
 use Rattle.std.proofs.Math.Path.{sym, ap}
 use Rattle.std.proofs.Common.{◌∙◌, length-set}
-use Rattle.std.proofs.Math.Logic.{by_cases}
 use Prim.Native.Nat.{ℕ, suc, ◌+◌, ◌-◌, ◌≤◌, ◌<◌}
-use Rattle.std.proofs.Math.Decide.{dec_lt}
 use native.Mathlib.Omega.{arith}
 use borrow.Author.Tests.{ltb-true, lt-ltb}
 use Rattle.std.proofs.Math.ListN.{set}
@@ -48,45 +56,50 @@ pub ruleset counting = (inputs_none, inputs_one, inputs_no, inputs_all)
 -- ---- From m on
 
 -- No number from m on, and below i, passes.
-abbrev pub ClearFrom : (ℕ → Bool) → ℕ → ℕ → Type 0
+abbrev ClearFrom : (ℕ → Bool) → ℕ → ℕ → Type 0
 ClearFrom f m i = (k : ℕ) → m ≤ k → k < i → f k ≡ false
 
-module _ (f : ℕ → Bool) (m : ℕ) where
-  pub from_none : ClearFrom f m m
-  from_none k l h = absurd (omega arith)
+from_is : (f : ℕ → Bool) (m n i : ℕ) → m ≤ i → i ≤ n → ClearFrom f m i → (i < n → f i ≡ true) → i ≡ first_from m n f
+unfolding first_from
+from_is f m n i l h none here =
+    let to : m + (i - m) ≡ i = omega arith in
+    omega (
+      arith,
+      first_is (n - m) (λ k. f (m + k)) (i - m) (omega arith) (λ k b. none (m + k) (omega arith) (omega arith)) (λ b. ap f to ∙ here (omega arith)),
+    )
 
-  pub from_more : (i : ℕ) (t : Bool) → ClearFrom f m i → t ≡ f i → t ≡ false → ClearFrom f m (i + 1)
-  from_more i t none e u k l h =
-      by_cases (dec_lt k i) (none k l) (λ g. let s : k ≡ i = omega arith in ap f s ∙ sym e ∙ u)
-
-  from_is : (n i : ℕ) → m ≤ i → i ≤ n → ClearFrom f m i → (i < n → f i ≡ true) → i ≡ first_from m n f
-  unfolding first_from
-  from_is n i l h none here =
-      let to : m + (i - m) ≡ i = omega arith in
-      omega (
-        arith,
-        first_is (n - m) (λ k. f (m + k)) (i - m) (omega arith) (λ k b. none (m + k) (omega arith) (omega arith)) (λ b. ap f to ∙ here (omega arith)),
-      )
-
-  pub from_hit : (n i : ℕ) (t : Bool) → m ≤ i → i < n → ClearFrom f m i → t ≡ f i → t ≡ true → i ≡ first_from m n f
-  from_hit n i t l h none e u = from_is n i l (omega arith) none (λ _. sym e ∙ u)
-
-  pub from_end : (n i : ℕ) → m ≤ i → i ≤ n → n ≤ i → ClearFrom f m i → i ≡ first_from m n f
-  from_end n i l h g none = from_is n i l h none (λ b. absurd (omega arith))
-
-pub ruleset scanning = (from_none, from_more, from_hit, from_end)
+-- `find` over the numbers from m on and below n, with a closure that computes f; n where it finds none.
+pub found_from : {F : Type 0} {g : Mut F (Bor ℕ × Unit {0}) Bool} (m n : ℕ) (f : ℕ → Bool) (s u : Range ℕ) (p : F) (r : Option ℕ)
+    → (xs : List ℕ) × (j : F) × YieldsThen nat_range_steps s xs r u × FoldsTo (λ p x q. CalledAt g p x false q) p xs j
+    × MatchOption r ⊤ (λ x. (h : F) × CalledAt g j x true h)
+    → s ≡ record { start = m; end = n } → m ≤ n → ((x : ℕ) (b : Bool) (q : F) → CalledAt g p x b q → (q ≡ p) × (b ≡ f x))
+    → (i : ℕ) → i ≡ unwrap_or r n → i ≡ first_from m n f
+found_from m n f s u p r ran e l calls i d =
+    d ∙ go r (first_from_Range s u p r (λ x. f x ≡ true) (λ x. f x ≡ false) ran
+    (λ x q h. sym (calls x true q h).1) (λ x q h. ((calls x false q h).0, sym (calls x false q h).1)))
+  where
+    go : (r : Option ℕ)
+        → MatchOption r ((k : ℕ) → s.start ≤ k → k < s.end → f k ≡ false)
+        (λ i. (s.start ≤ i) × (i < s.end) × (f i ≡ true) × ((k : ℕ) → s.start ≤ k → k < i → f k ≡ false))
+        → unwrap_or r n ≡ first_from m n f
+    go (Some i) h = from_is f m n i (rw e at h.0) (let b = rw e at h.1 in omega arith) (λ k a b. h.3 k (rw e a) b) (λ _. h.2)
+    go None h = from_is f m n n l (omega arith) (λ k a b. h k (rw e a) (rw e b)) (λ b. absurd (omega arith))
 
 -- ---- Back from n
 
+-- No number from i on, and below n, passes; t is the test of the one before i.
 module _ (f : ℕ → Bool) (n i : ℕ) (same : end_below n f ≡ end_below i f) where
-  module _ (l : 0 < i) (j : ℕ) (q : j ≡ i - 1) (t : Bool) (e : t ≡ f j) where
-    pub back_hit : t ≡ true → i ≡ end_below n f
+  module _ (l : 0 < i) (t : Bool) (e : t ≡ f (i - 1)) where
+    pub back_hit : t ≡ true → i - 1 + 1 ≡ end_below n f
     unfolding end_below
-    back_hit u = let s : i ≡ suc j = omega arith in sym (same ∙ ap (λ k. end_below k f) s ∙ rw (sym e ∙ u, end_below) (sym s))
+    back_hit u =
+        let s : i ≡ suc (i - 1) = omega arith in
+        let r : i - 1 + 1 ≡ suc (i - 1) = omega arith in
+        r ∙ sym (same ∙ ap (λ k. end_below k f) s ∙ rw (sym e ∙ u, end_below))
 
-    pub back_miss : t ≡ false → end_below n f ≡ end_below j f
+    pub back_miss : t ≡ false → end_below n f ≡ end_below (i - 1) f
     unfolding end_below
-    back_miss u = let s : i ≡ suc j = omega arith in same ∙ ap (λ k. end_below k f) s ∙ rw (sym e ∙ u, end_below)
+    back_miss u = let s : i ≡ suc (i - 1) = omega arith in same ∙ ap (λ k. end_below k f) s ∙ rw (sym e ∙ u, end_below)
 
   pub back_end : i ≤ 0 → 0 ≡ end_below n f
   unfolding end_below

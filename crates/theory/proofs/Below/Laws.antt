@@ -1,6 +1,6 @@
 -- Laws of tests, sums, extremes and tables below a bound. Assumes nothing.
 use Rattle.std.specs.Prelude.{◌≡◌, refl, Bool, true, false, ◌||◌, List, ◌↔◌, length, get_or, set}
-use Rattle.std.proofs.Common.{sym, ap, ◌∙◌, subst, true≢false, ⊎_elim, add-suc, add-zero, ext_get_or, get_or-set_same, get_or-set_other}
+use Rattle.std.proofs.Common.{sym, ap, ap₂, ◌∙◌, subst, true≢false, ⊎_elim, add-suc, add-zero, ext_get_or, get_or-set_same, get_or-set_other}
 use Rattle.std.proofs.lemmas.Bool.{false≢true}
 use Rattle.std.proofs.Math.Logic.{by_cases}
 use Prim.Native.Nat.{ℕ, zero, suc, ◌+◌, ◌-◌, ◌*◌, ◌≤◌, ◌<◌, min, max}
@@ -63,6 +63,11 @@ pub any_fails : (n : ℕ) (f : ℕ → Bool) → any_below n f ≡ false → (k 
 any_fails n f h k l = is_false _ (λ e. not_both (any_intro _ _ k l e) h)
 
 -- Tests that agree below n agree on whether all numbers below n pass.
+pub any_same : (n : ℕ) (f g : ℕ → Bool) → ((k : ℕ) → k < n → f k ≡ g k) → any_below n f ≡ any_below n g
+unfolding any_below
+any_same zero f g e = refl
+any_same (suc n) f g e = ap₂ (λ a b. a || b) (e n (omega arith)) (any_same n f g (λ k l. e k (omega arith)))
+
 pub all_same : (n : ℕ) (f g : ℕ → Bool) → ((k : ℕ) → k < n → f k ≡ g k) → all_below n f ≡ all_below n g
 all_same n f g e =
     by_test (all_below n g)

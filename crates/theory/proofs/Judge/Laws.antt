@@ -1,5 +1,5 @@
 -- The code's branches follow the judgement, and a check passes just where no place of any test is bad. Assumes nothing.
-use Rattle.std.specs.Prelude.{◌≡◌, Bool, true, false, ◌||◌, ◌⊎◌, ℕ, ◌≤◌, ◌<◌, ltb, eqb}
+use Rattle.std.specs.Prelude.{◌≡◌, Bool, true, false, ◌||◌, ◌⊎◌, ℕ, ◌≤◌, ◌<◌, ltb, eqb, Option, Some, None, Result, Ok, Err}
 use Rattle.std.proofs.Math.Path.{refl, sym, ap}
 use Rattle.std.proofs.Common.{◌∙◌, subst, arith}
 use mathlib.Core.List.{List, [], ◌∷◌, ◌++◌, append-nil}
@@ -8,8 +8,10 @@ use borrow.Author.Tests.{lt-ltb, le-ltb, ltb-true, ltb-false, eqb-false}
 use Rattle.theory.proofs.Bool.Laws.{by_test, not_both, or_fails}
 use Rattle.theory.proofs.Below.Laws.{first_is, first_passes, first-lowest}
 use Rattle.theory.specs.Below.{Clear}
+use Rattle.theory.specs.Below.Ends.{first_where}
 use Rattle.theory.proofs.Below.Scan.{first_clear}
 use Rattle.theory.specs.Judge.{Test, only, place, judge, Passes, FirstFits}
+use Rattle.theory.specs.Judge.Found.{at_place, where_bad}
 
 module _ {A : Type 0} (refuse : ℕ → ℕ → A) (pass r : A) where
   -- What the code found as the place of a test is k, or, of a test with one place, that it is bad or not is u. It answers r.
@@ -198,3 +200,67 @@ pub fits_after : (us vs : List Test) (n k : ℕ) → Passes us → FirstFits (us
 fits_after [] vs n k p f = f
 fits_after (u ∷ us) vs n k p f =
     ⊎_elim (λ h. absurd (not_both h.2 (p.0 k h.1))) (λ s. fits_after us vs n k p.1 s.1) (fits_split u (us ++ vs) n k f)
+
+-- ---- A check that answers a Result, and makes its tests by `?`
+
+-- The error of a result that is one.
+abbrev err_or : {A R : Type 0} → R → Result A R → R
+err_or q (Ok a) = q
+err_or q (Err r) = r
+
+abbrev IsNoErr : {A R : Type 0} → Result A R → Type 0
+IsNoErr (Ok a) = Unit {0}
+IsNoErr (Err r) = ⊥
+
+module _ {A R : Type 0} (refuse : ℕ → ℕ → R) (pass r : Result A R) where
+  -- The judgement of the tests behind one whose lowest bad place, if it has one, is o.
+  abbrev after_place : ℕ → List Test → Option ℕ → Result A R
+  after_place n ts (Some k) = Err (refuse n k)
+  after_place n ts None = judge (λ m k. Err (refuse m k)) pass ts
+
+  by_place : (t : Test) (ts : List Test) → judge (λ m k. Err (refuse m k)) pass (t ∷ ts) ≡ after_place t.number ts (first_where t.places t.bad)
+  unfolding judge first_where
+  by_place t ts = by_test (ltb (place t) t.places) (λ e. rw (judge, first_where, e) refl) (λ e. rw (judge, first_where, e) refl)
+
+  -- x is what the first test finds, by its lowest bad place o. It answers r.
+  module _ (t : Test) (ts : List Test) (x : Result (Unit {0}) R) (o : Option ℕ) (d : x ≡ at_place refuse t.number o) (e : o ≡ first_where t.places t.bad) where
+    pub test_refuses : (q : R) → x ≡ Err q → r ≡ Err q → r ≡ judge (λ m k. Err (refuse m k)) pass (t ∷ ts)
+    test_refuses q u h = rw (by_place t ts, ← e) (go o (sym u ∙ d))
+      where
+        go : (o : Option ℕ) → Err q ≡ at_place refuse t.number o → r ≡ after_place t.number ts o
+        go (Some k) g = h ∙ ap Err (ap (err_or q) g)
+        go None g = absurd (subst IsNoErr (sym g) tt)
+
+    pub test_passes : x ≡ Ok tt → r ≡ judge (λ m k. Err (refuse m k)) pass ts → r ≡ judge (λ m k. Err (refuse m k)) pass (t ∷ ts)
+    test_passes u h = rw (by_place t ts, ← e) (go o (sym u ∙ d))
+      where
+        go : (o : Option ℕ) → Ok tt ≡ at_place refuse t.number o → r ≡ after_place t.number ts o
+        go (Some k) g = absurd (subst IsNoErr g tt)
+        go None g = h
+
+-- The last test, whose answer is that of the check.
+pub test_last : {R : Type 0} (refuse : ℕ → ℕ → R) (t : Test) (x : Result (Unit {0}) R) (o : Option ℕ) → x ≡ at_place refuse t.number o
+    → o ≡ first_where t.places t.bad → x ≡ judge (λ m k. Err (refuse m k)) (Ok tt) (t ∷ [])
+unfolding judge
+test_last refuse t x o d e = rw (by_place refuse (Ok (tt {0})) (Ok (tt {0})) t [], ← e) (d ∙ go o)
+  where
+    go : (o : Option ℕ) → at_place refuse t.number o ≡ after_place refuse (Ok tt) (Ok tt) t.number [] o
+    go (Some k) = refl
+    go None = refl
+
+-- A test that points at nothing, of which u says whether it is bad; x is what it finds.
+module _ {A R : Type 0} (refuse : ℕ → ℕ → R) (pass r : Result A R) (n : ℕ) (t : Bool) (ts : List Test) (x : Result (Unit {0}) R) (u : Bool)
+    (d : x ≡ where_bad refuse n u) (e : u ≡ t) where
+  pub only_refuses : (q : R) → x ≡ Err q → r ≡ Err q → r ≡ judge (λ m k. Err (refuse m k)) pass (only n t ∷ ts)
+  only_refuses q v h = go u e (sym v ∙ d)
+    where
+      go : (u : Bool) → u ≡ t → Err q ≡ where_bad refuse n u → r ≡ judge (λ m k. Err (refuse m k)) pass (only n t ∷ ts)
+      go true f g = only_hit (λ m k. Err (refuse m k)) pass r n t true ts f refl (h ∙ ap Err (ap (err_or q) g))
+      go false f g = absurd (subst IsNoErr (sym g) tt)
+
+  pub only_passes : x ≡ Ok tt → r ≡ judge (λ m k. Err (refuse m k)) pass ts → r ≡ judge (λ m k. Err (refuse m k)) pass (only n t ∷ ts)
+  only_passes v h = go u e (sym v ∙ d)
+    where
+      go : (u : Bool) → u ≡ t → Ok tt ≡ where_bad refuse n u → r ≡ judge (λ m k. Err (refuse m k)) pass (only n t ∷ ts)
+      go true f g = absurd (subst IsNoErr g tt)
+      go false f g = only_pass (λ m k. Err (refuse m k)) pass r n t false ts f refl h

@@ -1,6 +1,10 @@
--- The ends of what passes below a bound, and tables; the code of starts speaks of them.
-use Rattle.std.specs.Prelude.{Bool, true, false, List, [], ◌∷◌, ℕ, zero, suc, ◌+◌, ◌-◌}
+-- The first that passes below a bound, where there is one, the ends of what passes, and tables; the contracts of the code speak of them.
+use Rattle.std.specs.Prelude.{Bool, true, false, cond, List, [], ◌∷◌, ℕ, zero, suc, ◌+◌, ◌-◌, ltb, Option, Some, None}
 use Rattle.theory.specs.Below.{first_below}
+
+-- The lowest number below n that passes, if there is one.
+unfoldable pub first_where : ℕ → (ℕ → Bool) → Option ℕ
+first_where n f = cond (ltb (first_below n f) n) (Some (first_below n f)) None
 
 -- The lowest number from m on, and below n, that passes, or n; where m is at most n.
 unfoldable pub first_from : ℕ → ℕ → (ℕ → Bool) → ℕ

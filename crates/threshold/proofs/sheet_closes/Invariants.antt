@@ -1,12 +1,7 @@
 -- The weights of the states below s are allowed, and gains and losses are the sums of theirs.
-use Rattle.std.proofs.Common.{◌-◌, ◌≤◌}
 use Rattle.leaf.specs.Code.Laws.{Added}
 use Rattle.threshold.specs.Code.{share_of}
 use Rattle.threshold.proofs.sheet_closes.Given as goal
 
 abbrev pub invariant-loop-s : goal.invariant-loop-s
-invariant-loop-s l =
-    (l.z.states ≤ 64) × (l.s ≤ l.z.states) × Added 1125899906842624 (share_of l.t l.z l.states l.numbers l.one l.start l.end l.k) l.s l.gains l.losses
-
-abbrev pub decreases-loop-s : goal.decreases-loop-s
-decreases-loop-s l = l.z.states - l.s
+invariant-loop-s l = Added 1125899906842624 (share_of l.t l.z l.states l.numbers l.one l.start l.end l.k) l.s l.gains l.losses

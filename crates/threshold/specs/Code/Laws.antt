@@ -1,7 +1,7 @@
 -- The leaf rule of a sheet, by the shares of the states. Assumes nothing.
-use Rattle.std.specs.Prelude.{◌≡◌, refl, Bool, true, not, ◌&&◌, ◌||◌, List, ℕ, ◌+◌, ◌-◌, ◌*◌, ◌≤◌, ◌<◌, ltb}
+use Rattle.std.specs.Prelude.{◌≡◌, Bool, true, not, ◌&&◌, ◌||◌, List, ℕ, ◌+◌, ◌*◌, ◌≤◌, ◌<◌, ltb}
 use Rattle.std.proofs.Math.Path.{sym, ap, fun_ext}
-use Rattle.std.proofs.Common.{◌∙◌, mul-le-mul, le_refl, arith}
+use Rattle.std.proofs.Common.{◌∙◌, arith}
 use Rattle.std.proofs.Math.Bool.{false, and_assoc, and-false}
 use Rattle.std.proofs.Math.Dec.{leb}
 use borrow.Author.Tests.{not-true, not-false}
@@ -13,11 +13,11 @@ use Rattle.theory.specs.Leaf.{extra, spare, non_increasing, start_fits, times, e
 use Rattle.theory.specs.Tree.{is_modulus}
 use Rattle.theory.specs.Sheet as theory
 use Rattle.theory.specs.Sheet.{sheet_closes}
-use Rattle.format.specs.Bytes.{le16, section}
+use Rattle.format.specs.Bytes.{le16}
 use Rattle.format.specs.Code.{Value}
 use Rattle.format.specs.Format.{protocol_of, end_weight, weights_of}
 use Rattle.format.specs.declared.Sizes.{Sizes}
-use Rattle.share.specs.Code.{closes_by, kept_by, KnownAt, fixed_in, times_of, start_share, end_share, ShareIs}
+use Rattle.share.specs.Code.{closes_by, kept_by, KnownAt, fixed_in, times_of, both_of, start_share, end_share, ShareIs}
 use Rattle.share.specs.Code.Laws.{all_and}
 use Rattle.share.specs.declared.Closing.TheVariants.{BySums, ByRemainders}
 use Rattle.share.specs.declared.Fixed.{Fixed}
@@ -25,19 +25,11 @@ use Rattle.share.specs.declared.Known.{Known}
 use Rattle.share.specs.declared.Share.{Share}
 use Rattle.leaf.specs.Code.{fixed_at}
 use Rattle.leaf.specs.Code.Laws.{Added, not_all, all-added}
-use Rattle.threshold.specs.Numbers.{sheet_number, leaf_in, sheet_weight, multiplier_of}
-use Rattle.threshold.specs.Code.{threshold_of, closes_for, moduli_for, closes_modulo_for, bias_of, both_of, share_of}
+use Rattle.threshold.specs.Numbers.{leaf_in, sheet_weight, multiplier_of}
+use Rattle.threshold.specs.Code.{threshold_of, closes_for, moduli_for, closes_modulo_for, bias_of, share_of}
 use Rattle.threshold.specs.declared.Leaves.{Leaves}
 use Rattle.threshold.specs.declared.Leaves.TheVariants.{OfDocket, OfSheet}
 use Rattle.threshold.specs.declared.Threshold.{Threshold}
-
--- ---- Numbers
-
--- The bytes of a leaf, m being how many weights stand before it.
-pub leaf_at_lem : (leaves r : List ℕ) (n l m b : ℕ) → Value b (l * n) m → r ≡ section leaves (2 * m + 2 * l) (2 * n + 2) → r ≡ leaf_in n leaves l
-leaf_at_lem leaves r n l m b v h =
-    let e : 2 * m + 2 * l ≡ l * (2 * n + 2) = omega (arith, v.is) in
-    h ∙ ap (λ (k : ℕ). section leaves k (2 * n + 2)) e
 
 -- The weights of a leaf, whose bytes one has, read as those of a docket's first leaf at end 1.
 pub weight_in_lem : (z : Sizes) (leaves one : List ℕ) (l : ℕ) → one ≡ leaf_in z.states leaves l → sheet_weight z.states leaves l ≡ end_weight z one 0 0
@@ -45,21 +37,6 @@ weight_in_lem z leaves one l o =
     fun_ext (λ s.
     let e : 2 * (2 * (0 * z.states) + 0 * z.states + s) ≡ 2 * s = omega arith in
     rw (e, o))
-
-pub multiple_small : (k n : ℕ) → k < 65536 → k * n < 65536 * (n + 1)
-multiple_small k n l =
-    let k' : k ≤ 65536 = omega arith in
-    omega (arith, mul-le-mul k' (le_refl n))
-
--- n is the number of state s in the sheet.
-module _ (t : Threshold) (numbers : List ℕ) (s n : ℕ) (v : Value 65536 (sheet_number numbers s) n) where
-  pub number_negated : t.negated ≡ true → Value 65537 ((threshold_of t numbers).numbers s) (65536 - n)
-  number_negated e = rw (e, ← v.is) (record { is = refl; small = omega arith })
-
-  pub number-kept : t.negated ≡ false → Value 65537 ((threshold_of t numbers).numbers s) n
-  number-kept e = rw (e, ← v.is) (record { is = refl; small = omega (arith, v.small) })
-
-pub ruleset numbering = (number_negated, number-kept)
 
 -- ---- One state
 

@@ -1,10 +1,7 @@
 -- `totals::copy` meets its contract: the first i numbers are copied.
-use Rattle.std.proofs.Common.{◌≡◌, ◌≤◌, ◌-◌, length, get_or}
+use Rattle.std.proofs.Common.{◌≡◌, length, get_or}
 use Rattle.theory.proofs.Below.Laws.{Filled}
 use Rattle.totals.proofs.copy.Given as goal
 
 abbrev pub invariant-loop-i : goal.invariant-loop-i
-invariant-loop-i l = (l.i ≤ length l.from) × (length l.to ≡ length l.from) × Filled (λ k. get_or l.from k 0) l.i l.to
-
-abbrev pub decreases-loop-i : goal.decreases-loop-i
-decreases-loop-i l = length l.from - l.i
+invariant-loop-i l = (length l.to ≡ length l.from) × Filled (λ k. get_or l.from k 0) l.i l.to

@@ -19,8 +19,5 @@ loop-going-smaller c = search (turning, rules)
 pub loop-going-preserved : goal.loop-going-preserved
 loop-going-preserved c = search (turning, rules)
 
-pub shape_of-counts : goal.shape_of-counts
-shape_of-counts c = search (turning, rules)
-
 pub returns : goal.returns
 returns c = search (turning, rules)

@@ -8,8 +8,10 @@ use Rattle.totals.specs.Code.{Turning}
 use Rattle.totals.proofs.run_to_rest.Given as goal
 
 abbrev pub invariant-loop-going : goal.invariant-loop-going
-invariant-loop-going l = Turning l.docket l.h l.initial.counts l.total l.going l.counts
+invariant-loop-going l = Turning l.docket.bytes.now l.docket.header l.initial.counts l.total l.going l.counts
 
 abbrev pub decreases-loop-going : goal.decreases-loop-going
 decreases-loop-going l =
-    (size l.initial.counts * spreads (protocol_in l.docket l.h) (layers_in l.docket l.h) (weight_in l.docket l.h) - l.total) + bit l.going
+    let b = l.docket.bytes.now in
+    let h = l.docket.header in
+    (size l.initial.counts * spreads (protocol_in b h) (layers_in b h) (weight_in b h) - l.total) + bit l.going

@@ -7,10 +7,6 @@ use Rattle.totals.proofs.tally_start.Goals.{then-needs_most, else-needs_most}
 pub run_to_rest-steps-requires : goal.run_to_rest-steps-requires
 run_to_rest-steps-requires c = search (group_same, rules)
 
-pub shape_of-first : goal.shape_of-first
-shape_of-first c =
-    elim c.if-needs_most.branch [ then-needs_most w ↦ rw w.first-is (search rules) | else-needs_most w ↦ rw w.first-is (search rules) ]
-
 pub returns : goal.returns
 returns c =
     let good = c.requires.docket in

@@ -7,8 +7,10 @@ use Rattle.totals.proofs.tally_starts.Given as goal
 
 abbrev pub invariant-loop-going : goal.invariant-loop-going
 invariant-loop-going l =
-    Tallying (protocol_in l.docket l.h) (layers_in l.docket l.h) (weight_in l.docket l.h) l.n l.t l.first l.going l.counts
-    × (length l.counts ≡ l.h.sizes.states) × (length l.work ≡ l.h.sizes.states) × (length l.first ≡ l.h.sizes.states)
+    let b = l.docket.bytes.now in
+    let h = l.docket.header in
+    Tallying (protocol_in b h) (layers_in b h) (weight_in b h) l.n l.t l.first l.going l.counts
+    × (length l.counts ≡ h.sizes.states) × (length l.work ≡ h.sizes.states) × (length l.first ≡ h.sizes.states)
 
 abbrev pub decreases-loop-going : goal.decreases-loop-going
-decreases-loop-going l = length (starts (protocol_in l.docket l.h) l.n) - l.t.starts
+decreases-loop-going l = length (starts (protocol_in l.docket.bytes.now l.docket.header) l.n) - l.t.starts

@@ -1,7 +1,7 @@
 -- The word of the party has its states.
-use Rattle.facts.specs.Code.Laws.{end-word}
+use Rattle.facts.specs.Code.Laws.{set-word}
 use Rattle.std.proofs.Common.{rules}
 use Rattle.facts.proofs.Facts.at_most_one.Goals as goal
 
 pub returns : goal.returns
-returns c = search (end-word, rules)
+returns c = search (set-word, rules)

@@ -1,8 +1,0 @@
--- `codes::start_code` meets its contract: each arm is the definition's case.
-use Rattle.codes.specs.Codes.{start_code}
-use Rattle.codes.specs.Codes.Laws.{told}
-use Rattle.std.proofs.Common.{rules}
-use Rattle.codes.proofs.start_code.Goals as goal
-
-pub returns-in-Refused : goal.returns-in-Refused
-returns-in-Refused c = search (told start_code, rules)

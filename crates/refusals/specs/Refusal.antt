@@ -1,0 +1,10 @@
+-- A refusal (document 01, "What a call says"): the number of the test that refuses, and the place at which it does.
+use Rattle.std.specs.Prelude.{ℕ}
+
+-- A refusal's number and place.
+pub record Refusal : Type 0 where
+  pub number : ℕ
+  pub place : ℕ
+
+abbrev pub refusal : ℕ → ℕ → Refusal
+refusal n k = record { number = n; place = k }

@@ -7,7 +7,8 @@ use Rattle.theory.specs.Ladder.{Layers, lowers_at, handover_at, spreads}
 use Rattle.theory.specs.Tree.{Walked, next, refused, disagreement, tree_answer, widest}
 use Rattle.format.specs.Format.{Sections, sections_of, layer_weight, protocol_of, layers_of, tree_of, weights_of}
 use Rattle.format.specs.declared.Sizes.{Sizes}
-use Rattle.refusals.specs.Refusal.{Refusal, refusal}
+use Rattle.refusals.specs.declared.Refusal.{Refusal}
+use Rattle.refusals.specs.Refusal.{refusal}
 use Rattle.shape.specs.Shape.{shape_of, by_shape}
 use Rattle.leaf.specs.Leaf.{leaf_test}
 use Rattle.checker.specs.declared.Summary.{Summary}

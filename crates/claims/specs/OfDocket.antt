@@ -2,7 +2,8 @@
 -- beside document 02 for what its Jobs changed; the record OfDocket at the end says what is proved, and proofs/OfDocket/ proves it.
 -- The protocol of a docket with header h is protocol_in b h, its layers are layers_in b h, their weights weight_in b h. What is
 -- said of lists of rule numbers and of calls is stated in theory's Claims, over what the machine says of the bytes here.
-use Rattle.refusals.specs.Refusal.{Refusal, refusal}
+use Rattle.refusals.specs.declared.Refusal.{Refusal}
+use Rattle.refusals.specs.Refusal.{refusal}
 use Rattle.std.specs.Prelude.{◌≡◌, Bool, true, false, cond, List, [], ◌∷◌, ◌++◌, ◌↔◌, ◌⊎◌, ℕ, ◌+◌, ◌≤◌, ◌<◌, length, ltb, ℤ, pos, ◌-ℤ◌, ◌≤ℤ◌, Ok, Err, Some, None}
 use Rattle.theory.specs.Judge.{Test, Passes, FirstFits}
 use Rattle.theory.specs.Protocol.{Protocol, enabled, terminal, Shows, StartRule, Start, Unfixed, fires, after, meetings}

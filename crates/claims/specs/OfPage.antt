@@ -1,7 +1,8 @@
 -- What is proved of the call that runs the groups of a page (document 02, Job 8), for every docket with bytes b, counts c, limit
 -- and results r as they are lent. Statements only; proofs/OfPage/ proves them. The contracts of the code say that the call answers
 -- page_of b c r, and leaves counts_after_page b c limit r and results_after_page b c limit r.
-use Rattle.refusals.specs.Refusal.{Refusal, refusal}
+use Rattle.refusals.specs.declared.Refusal.{Refusal}
+use Rattle.refusals.specs.Refusal.{refusal}
 use Rattle.std.specs.Prelude.{◌≡◌, Bool, true, false, List, [], ◌∷◌, ◌++◌, map, ◌↔◌, ℕ, ◌+◌, ◌*◌, ◌/◌, ◌%◌, ◌≤◌, ◌<◌, eqb, length, get_or, Ok, Err, Some}
 use Rattle.theory.specs.Bool.{bit}
 use Rattle.theory.specs.Judge.{Test, Passes, FirstFits}

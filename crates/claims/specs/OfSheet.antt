@@ -1,6 +1,7 @@
 -- What is proved of claim sheets (document 02, Job 10), for every docket with bytes b and every sheet with bytes y. Statements only;
 -- proofs/OfSheet/ proves them. The contract of the code says that the check of a docket with its sheet answers check_sheet_of b y.
-use Rattle.refusals.specs.Refusal.{Refusal, refusal}
+use Rattle.refusals.specs.declared.Refusal.{Refusal}
+use Rattle.refusals.specs.Refusal.{refusal}
 use Rattle.std.specs.Prelude.{◌≡◌, true, false, cond, List, ◌↔◌, ◌⊎◌, ℕ, ◌+◌, ◌*◌, ◌≤◌, ◌<◌, length, get_or, ltb, ℤ, pos, ◌-ℤ◌, ◌≤ℤ◌, ◌<ℤ◌, Ok, Err, Some}
 use Rattle.theory.specs.Protocol.{Protocol, terminal, Shows, Start, after}
 use Rattle.theory.specs.Facts.{Facts}

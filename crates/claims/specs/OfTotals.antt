@@ -1,6 +1,7 @@
 -- What is proved of the sheet of exact totals (document 02, Job 9), for every docket with bytes b and every n. Statements only;
 -- proofs/OfTotals/ proves them. The contract of the code says that the call answers sheet_of b n; what the program prints of it is tested.
-use Rattle.refusals.specs.Refusal.{Refusal, refusal}
+use Rattle.refusals.specs.declared.Refusal.{Refusal}
+use Rattle.refusals.specs.Refusal.{refusal}
 use Rattle.std.specs.Prelude.{◌≡◌, Bool, true, false, List, map, ◌↔◌, ◌⊎◌, ℕ, suc, ◌+◌, ◌-◌, ◌*◌, ◌≤◌, ◌<◌, length, take, drop, replicate, Ok, Err}
 use Rattle.std.specs.Bool.{beq}
 use Rattle.theory.specs.Bool.{bit}

@@ -1,7 +1,8 @@
 -- What is proved of the writer (document 02, Jobs 3 to 5), for every version v, all sections x, which document 02 calls parts,
 -- and every output `out`. Statements only; proofs/OfWriter/ proves them. The contracts of the code say that the writer answers write_of v
 -- x (length out) and leaves output_of v x out in the output.
-use Rattle.refusals.specs.Refusal.{Refusal, refusal}
+use Rattle.refusals.specs.declared.Refusal.{Refusal}
+use Rattle.refusals.specs.Refusal.{refusal}
 use Rattle.std.specs.Prelude.{◌≡◌, true, List, [], ◌∷◌, ◌++◌, ◌↔◌, ◌⊎◌, ℕ, ◌+◌, ◌*◌, ◌≤◌, ◌<◌, length, take, drop, Ok, Err}
 use Rattle.theory.specs.Below.{Clear}
 use Rattle.theory.specs.Judge.{Passes, FirstFits}

@@ -1,7 +1,8 @@
 -- The samples P1 to P12 of document 01, and samples of document 02. They hold: Samples in proofs/.
 use Rattle.std.specs.Prelude.{Result}
 use Rattle.checker.specs.declared.Summary.{Summary}
-use Rattle.refusals.specs.Refusal.{Refusal, refusal}
+use Rattle.refusals.specs.declared.Refusal.{Refusal}
+use Rattle.refusals.specs.Refusal.{refusal}
 use Rattle.totals.specs.declared.Totals.{Totals}
 use Rattle.std.specs.Prelude.{◌≡◌, Bool, true, false, List, [], ◌∷◌, ◌++◌, ℕ, ◌-◌, ◌≤◌, length, take, set, replicate, Ok, Err, Some}
 use Rattle.theory.specs.Machine.{run, ran}

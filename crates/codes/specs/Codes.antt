@@ -2,7 +2,8 @@
 use Rattle.std.specs.Prelude.{Bool, List, [], ◌∷◌, ℕ, ◌+◌, ◌*◌, Option, Some, None, Result, Ok, Err}
 use Rattle.theory.specs.Bool.{bit}
 use Rattle.theory.specs.Machine.{Reply, stepped, ran, refused}
-use Rattle.refusals.specs.Refusal.{Refusal, refusal}
+use Rattle.refusals.specs.declared.Refusal.{Refusal}
+use Rattle.refusals.specs.Refusal.{refusal}
 use Rattle.checker.specs.declared.Summary.{Summary}
 pub mod Laws
 

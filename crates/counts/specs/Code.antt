@@ -3,7 +3,8 @@ use Rattle.std.specs.Prelude.{Bool, true, false, cond, ◌&&◌, List, ℕ, ◌-
 use Rattle.theory.specs.Protocol.{Protocol, count}
 use Rattle.theory.specs.Ladder.{Layers}
 use Rattle.theory.specs.Machine.{is_within, chosen}
-use Rattle.refusals.specs.Refusal.{Refusal, refusal}
+use Rattle.refusals.specs.declared.Refusal.{Refusal}
+use Rattle.refusals.specs.Refusal.{refusal}
 pub mod Laws
 
 -- What the tests 20 and 21 find of counts c where there are n states.

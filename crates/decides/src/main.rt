@@ -39,10 +39,12 @@ fn print_signed(rt: &impl Print, number: u32, bias: u32) -> io::Result<u64>
 fn print_numbers(rt: &impl Print, numbers: &[u8], n: u16) -> io::Result<u16>
     ensures { IfOk result (λ k. k ≡ n) }
 {
+    let mut printed = 0;
     for s in 0..n {
         print_signed(rt, threshold::sheet_number(numbers, s), 32768)?;
+        printed += 1;
     }
-    Ok(n)
+    Ok(printed)
 }
 
 // Reads the docket's length, the docket and the sheet, and answers how many bytes of each there are.

@@ -1,4 +1,4 @@
-// The facts that a tree of arguments gathers, as sets in words of 64 bits. Every function is total: a party or a run
+// The facts that a tree of arguments gathers, as sets in words of 64 bits. Every public function is total: a party or a run
 // outside its limits has no facts, and none can be marked there. No word is taken by an index that is computed, so that
 // the facts need not lie in memory: a loop over two or three words is unrolled, while `words[party - first]` took 16 % more
 // instructions in the walk of a tree.
@@ -89,49 +89,41 @@ impl Facts {
     // Each sort of facts has a mark and a reading of its own, which other crates call, and which their contracts name apart.
 
     // The states of the set are absent at the party.
-    pub fn mark_absent(self, party: usize, set: u64) -> Facts
+    pub fn mark_absent(mut self, party: usize, set: u64) -> Facts
         ensures { facts_of result ≡ with_absent (facts_of self) party (only_if (ltb party 3) (member set)) }
     {
-        Facts {
-            absent: mark(self.absent, 0, party, set),
-            ..self
-        }
+        self.absent = mark(self.absent, 0, party, set);
+        self
     }
 
     // The states of the set are present at the party.
-    pub fn mark_present(self, party: usize, set: u64) -> Facts
+    pub fn mark_present(mut self, party: usize, set: u64) -> Facts
         ensures { facts_of result ≡ with_present (facts_of self) party (only_if (ltb party 3) (member set)) }
     {
-        Facts {
-            present: mark(self.present, 0, party, set),
-            ..self
-        }
+        self.present = mark(self.present, 0, party, set);
+        self
     }
 
     // Each state of the set holds at most one agent at the party, which is an end.
-    pub fn mark_at_most_one(self, party: usize, set: u64) -> Facts
+    pub fn mark_at_most_one(mut self, party: usize, set: u64) -> Facts
         ensures { facts_of result ≡ with_at_most_one (facts_of self) party (only_if (is_end party) (member set)) }
     {
-        Facts {
-            at_most_one: mark(self.at_most_one, 1, party, set),
-            ..self
-        }
+        self.at_most_one = mark(self.at_most_one, 1, party, set);
+        self
     }
 
     // The rules of the set are unused in the run.
-    pub fn mark_unused(self, run: usize, set: [u64; 4]) -> Facts
+    pub fn mark_unused(mut self, run: usize, set: [u64; 4]) -> Facts
         ensures { facts_of result ≡ with_unused (facts_of self) run (only_if (is_end run) (in_words set)) }
     {
         let [a, b, c, d] = self.unused;
-        Facts {
-            unused: [
-                mark(a, 1, run, set[0]),
-                mark(b, 1, run, set[1]),
-                mark(c, 1, run, set[2]),
-                mark(d, 1, run, set[3]),
-            ],
-            ..self
-        }
+        self.unused = [
+            mark(a, 1, run, set[0]),
+            mark(b, 1, run, set[1]),
+            mark(c, 1, run, set[2]),
+            mark(d, 1, run, set[3]),
+        ];
+        self
     }
 
     // The states that are absent at the party.

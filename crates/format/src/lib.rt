@@ -254,17 +254,41 @@ pub fn flag_set(states: &[u8], z: Sizes, f: Flag) -> u64
     bits::among(z.states, |s| has_flag(states, z, f, s))
 }
 
+// The five bytes of rule r; past the end they are 0. Where all are there, they are read behind one test, which is that of the layer's
+// byte: who has read the layer before makes no other.
+fn rule_bytes(rules: &[u8], r: u16) -> [usize; 5]
+    ensures { (i : ℕ) → i < 5 → get_or result i 0 ≡ get_or rules.now (5 * r + i) 0 }
+{
+    let at = 5 * usize::from(r);
+    if at + 4 < rules.len() {
+        return [
+            usize::from(rules[at]),
+            usize::from(rules[at + 1]),
+            usize::from(rules[at + 2]),
+            usize::from(rules[at + 3]),
+            usize::from(rules[at + 4]),
+        ];
+    }
+    [
+        byte(rules, at),
+        byte(rules, at + 1),
+        byte(rules, at + 2),
+        byte(rules, at + 3),
+        byte(rules, at + 4),
+    ]
+}
+
 // Rule r, all of it.
 pub fn read_rule(rules: &[u8], r: u16) -> Rule
     ensures { result ≡ rule_of rules.now r }
 {
-    let [p, q, p2, q2, layer]: [u8; 5] = bytes(rules, 5 * usize::from(r));
+    let [p, q, p2, q2, layer] = rule_bytes(rules, r);
     Rule {
-        p: usize::from(p),
-        q: usize::from(q),
-        p2: usize::from(p2),
-        q2: usize::from(q2),
-        layer: usize::from(layer),
+        p,
+        q,
+        p2,
+        q2,
+        layer,
     }
 }
 

@@ -144,40 +144,37 @@ fn rule_fits(rules: &[u8], layer: usize, j: PreSequence, set: u64, v: u16) -> bo
     covers(j, p, q, p) && covers(j, p, q, q)
 }
 
-// Whether rule u is of no layer below that of s, or some rule is, with its before pair inside what s then u need.
-fn covered(rules: &[u8], z: Sizes, s: Rule, u: u16) -> bool
-    requires { SoundRules z rules.now }
-    ensures { result ≡ covered_in rules.now z.rules s u }
-{
-    let other = format::read_rule(rules, u);
-    let layer = s.layer;
-    if other.layer < layer {
-        let j = pre_sequence(s, other);
-        let set = states_of(j);
-        return (0..z.rules).any(|v| rule_fits(rules, layer, j, set, v));
-    }
-    true
-}
-
-// Whether handover holds at rule s. Below layer 0 there is no rule to ask about.
-fn hands_over(states: &[u8], rules: &[u8], z: Sizes, s: u16) -> bool
-    requires { SoundRules z rules.now }
-    ensures { result ≡ handover_at (protocol_of z states.now rules.now) (layers_of z rules.now) s }
-{
-    let rule = format::read_rule(rules, s);
-    if rule.layer == 0 {
-        return true;
-    }
-    (0..z.rules).all(|u| covered(rules, z, rule, u))
-}
-
-// Test 10: the lowest rule s at which handover fails.
+// Test 10: the lowest rule s at which handover fails. For each rule u of a layer below that of s the inner search goes to the
+// first rule that fits, and a label leaves it there, or the whole test where none does. Below layer 0 there is no rule to
+// ask about.
 pub fn handover_fault(states: &[u8], rules: &[u8], z: Sizes) -> Option<u16>
     requires { SoundRules z rules.now }
     ensures { let P = protocol_of z states.now rules.now in
         result ≡ first_where z.rules (λ s. not (handover_at P (layers_of z rules.now) s)) }
 {
-    (0..z.rules).find(|&s| !hands_over(states, rules, z, s))
+    let mut fault = None;
+    'test: for s in 0..z.rules {
+        let rule = format::read_rule(rules, s);
+        let layer = rule.layer;
+        if rule.layer == 0 {
+            continue 'test;
+        }
+        'search: for u in 0..z.rules {
+            let other = format::read_rule(rules, u);
+            if other.layer < layer {
+                let j = pre_sequence(rule, other);
+                let set = states_of(j);
+                for v in 0..z.rules {
+                    if rule_fits(rules, layer, j, set, v) {
+                        continue 'search;
+                    }
+                }
+                fault = Some(s);
+                break 'test;
+            }
+        }
+    }
+    fault
 }
 
 // ---- Spreads

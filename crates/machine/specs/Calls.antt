@@ -6,7 +6,8 @@ use Rattle.theory.specs.Protocol.{Protocol, terminal, output_of, start_test}
 use Rattle.theory.specs.Pairs.{pairs}
 use Rattle.theory.specs.Machine.{Call, Reply, refused, admit, reply, counts_after}
 use Rattle.format.specs.Format.{protocol_in, layers_in}
-use Rattle.refusals.specs.Refusal.{Refusal, refusal}
+use Rattle.refusals.specs.declared.Refusal.{Refusal}
+use Rattle.refusals.specs.Refusal.{refusal}
 use Rattle.shape.specs.Shape.{shape_of, by_shape}
 
 -- The verdict: 0, 1, or None for mixed.

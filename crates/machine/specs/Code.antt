@@ -4,7 +4,7 @@ use Rattle.theory.specs.Protocol.{Protocol}
 use Rattle.theory.specs.Ladder.{Layers}
 use Rattle.theory.specs.Machine.{Call, Reply, stepped, ran, refused, reply, counts_after}
 use Rattle.machine.specs.Calls.{reply_of, counts_of}
-use Rattle.refusals.specs.Refusal.{Refusal}
+use Rattle.refusals.specs.declared.Refusal.{Refusal}
 use Rattle.machine.specs.declared.Ran.{Ran}
 pub mod Laws
 pub mod Runs

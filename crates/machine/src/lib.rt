@@ -3,6 +3,8 @@
 // nothing.
 // A function that ends in _in is its call on a docket that passes tests 1 to 8. Those of the start test, verdict, step and run
 // are public, for crates that make several calls on one docket.
+// A call takes what tests 1 to 8 find apart by `let .. else`, and passes a refusal back from there: that is the form that document 01
+// names for it.
 #![tactic(auto)]
 
 ghost use Rattle.std.specs.Prelude.{◌≡◌, true, cond, ltb, Ok, Err};
@@ -53,10 +55,11 @@ pub fn start_in(docket: Docket<'_>, counts: &[u32]) -> Result<(), Refusal>
 pub fn start_test(docket: &[u8], counts: &[u32]) -> Result<(), Refusal>
     ensures { result ≡ start_of docket.now counts.now }
 {
-    match shape::read_shape(docket) {
-        Ok(docket) => start_in(docket, counts),
-        Err(r) => Err(r),
-    }
+    let read = shape::read_shape(docket);
+    let Ok(docket) = read else {
+        return Err(shape::refusal_of(read));
+    };
+    start_in(docket, counts)
 }
 
 // How many pairs of workers could make the meeting of rule number r, of a docket that passes tests 1 to 8.
@@ -75,10 +78,11 @@ fn can_act_in(docket: Docket<'_>, counts: &[u32], r: u32) -> Result<u64, Refusal
 pub fn can_act(docket: &[u8], counts: &[u32], r: u32) -> Result<u64, Refusal>
     ensures { result ≡ pairs_of docket.now counts.now r }
 {
-    match shape::read_shape(docket) {
-        Ok(docket) => can_act_in(docket, counts, r),
-        Err(r) => Err(r),
-    }
+    let read = shape::read_shape(docket);
+    let Ok(docket) = read else {
+        return Err(shape::refusal_of(read));
+    };
+    can_act_in(docket, counts, r)
 }
 
 // Whether no rule can act, of a docket that passes tests 1 to 8.
@@ -96,10 +100,11 @@ fn is_standstill_in(docket: Docket<'_>, counts: &[u32]) -> Result<bool, Refusal>
 pub fn is_standstill(docket: &[u8], counts: &[u32]) -> Result<bool, Refusal>
     ensures { result ≡ terminal_of docket.now counts.now }
 {
-    match shape::read_shape(docket) {
-        Ok(docket) => is_standstill_in(docket, counts),
-        Err(r) => Err(r),
-    }
+    let read = shape::read_shape(docket);
+    let Ok(docket) = read else {
+        return Err(shape::refusal_of(read));
+    };
+    is_standstill_in(docket, counts)
 }
 
 // The verdict of the counts, of a docket that passes tests 1 to 8.
@@ -124,10 +129,11 @@ pub fn verdict_in(docket: Docket<'_>, counts: &[u32]) -> Result<Option<bool>, Re
 pub fn read_verdict(docket: &[u8], counts: &[u32]) -> Result<Option<bool>, Refusal>
     ensures { result ≡ verdict_of docket.now counts.now }
 {
-    match shape::read_shape(docket) {
-        Ok(docket) => verdict_in(docket, counts),
-        Err(r) => Err(r),
-    }
+    let read = shape::read_shape(docket);
+    let Ok(docket) = read else {
+        return Err(shape::refusal_of(read));
+    };
+    verdict_in(docket, counts)
 }
 
 // A step on a docket that passes tests 1 to 8.
@@ -152,10 +158,11 @@ pub fn step_in(docket: Docket<'_>, counts: &mut [u32], r: u32) -> Result<(), Ref
 pub fn step(docket: &[u8], counts: &mut [u32], r: u32) -> Result<(), Refusal>
     ensures { RepliesOn docket.now counts.old (stepCall r) (reply_of_step result) counts.new }
 {
-    match shape::read_shape(docket) {
-        Ok(docket) => step_in(docket, counts, r),
-        Err(r) => Err(r),
-    }
+    let read = shape::read_shape(docket);
+    let Ok(docket) = read else {
+        return Err(shape::refusal_of(read));
+    };
+    step_in(docket, counts, r)
 }
 
 // The run from counts that pass: always the lowest rule number of the lowest layer that can act.
@@ -196,8 +203,9 @@ pub fn run_in(docket: Docket<'_>, counts: &mut [u32], limit: u32) -> Result<Ran,
 pub fn run(docket: &[u8], counts: &mut [u32], limit: u32) -> Result<Ran, Refusal>
     ensures { RepliesOn docket.now counts.old (runCall limit) (reply_of_run result) counts.new }
 {
-    match shape::read_shape(docket) {
-        Ok(docket) => run_in(docket, counts, limit),
-        Err(r) => Err(r),
-    }
+    let read = shape::read_shape(docket);
+    let Ok(docket) = read else {
+        return Err(shape::refusal_of(read));
+    };
+    run_in(docket, counts, limit)
 }

@@ -70,7 +70,7 @@ impl TryFrom<u8> for Kind {
             5 => Ok(Kind::Trap),
             6 => Ok(Kind::Siphon),
             7 => Ok(Kind::Remainder),
-            _ => Err(Fault::Fields),
+            8..=255 => Err(Fault::Fields),
         }
     }
 }

@@ -18,7 +18,8 @@ use Rattle.theory.proofs.Protocol.Lists.{length-after}
 use Rattle.theory.specs.Machine.{run, Reply, stepped, ran, refused, reply, counts_after, adds}
 use Rattle.format.specs.Format.{header_of, protocol_in, layers_in}
 use Rattle.format.specs.declared.Header.{Header}
-use Rattle.refusals.specs.Refusal.{Refusal, refusal}
+use Rattle.refusals.specs.declared.Refusal.{Refusal}
+use Rattle.refusals.specs.Refusal.{refusal}
 use Rattle.refusals.specs.Code.{refused_if}
 use Rattle.shape.specs.Shape.{shape_of}
 use Rattle.shape.proofs.ShapeLaws.{sound_then, sound_else, tested_passes}

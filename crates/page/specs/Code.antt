@@ -4,7 +4,8 @@ use Rattle.theory.specs.Judge.{judge}
 use Rattle.theory.specs.Machine.{run, reply, counts_after}
 use Rattle.format.specs.Format.{protocol_in, layers_in}
 use Rattle.format.specs.declared.Header.{Header}
-use Rattle.refusals.specs.Refusal.{Refusal, refusal}
+use Rattle.refusals.specs.declared.Refusal.{Refusal}
+use Rattle.refusals.specs.Refusal.{refusal}
 use Rattle.page.specs.Page.{result_of, page_tests, each_part}
 
 -- What tests 32 and 33 find.

@@ -5,7 +5,8 @@ use Rattle.theory.specs.Bool.{bit}
 use Rattle.theory.specs.Judge.{Test, only, judge}
 use Rattle.theory.specs.Machine.{run, Reply, stepped, ran, refused}
 use Rattle.format.specs.Format.{header_of}
-use Rattle.refusals.specs.Refusal.{Refusal, refusal}
+use Rattle.refusals.specs.declared.Refusal.{Refusal}
+use Rattle.refusals.specs.Refusal.{refusal}
 use Rattle.shape.specs.Shape.{shape_of, by_shape}
 use Rattle.machine.specs.Calls.{reply_of, counts_of}
 

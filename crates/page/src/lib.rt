@@ -98,12 +98,11 @@ pub fn run_page(
     ensures counts { counts.new ≡ counts_after_page docket.now counts.old limit results.old }
     ensures results { results.new ≡ results_after_page docket.now counts.old limit results.old }
 {
-    match shape::read_shape(docket) {
-        Ok(docket) => {
-            page_tests(docket.header.sizes.states, counts.len(), results.len())?;
-            run_groups(docket, counts, limit, results);
-            Ok(())
-        }
-        Err(r) => Err(r),
-    }
+    let read = shape::read_shape(docket);
+    let Ok(docket) = read else {
+        return Err(shape::refusal_of(read));
+    };
+    page_tests(docket.header.sizes.states, counts.len(), results.len())?;
+    run_groups(docket, counts, limit, results);
+    Ok(())
 }

@@ -1,7 +1,9 @@
 -- The faults by name and by number, and what the tests of the code find.
-use Rattle.std.specs.Prelude.{◌≡◌, refl, cond, eqb, ℕ, Bool, Option, Result}
+use Rattle.std.specs.Prelude.{◌≡◌, refl, cond, eqb, ℕ, Bool, Option, Result, List, ◌∷◌, ◌++◌, codes}
+use Rattle.std.specs.Fmt.{decimal}
 use Rattle.theory.specs.Judge.Found.{at_place, where_bad}
-use Rattle.refusals.specs.Refusal.{Refusal, refusal}
+use Rattle.refusals.specs.declared.Refusal.{Refusal}
+use Rattle.refusals.specs.Refusal.{refusal}
 use Rattle.refusals.specs.declared.Fault.{Fault}
 use Rattle.refusals.specs.declared.Fault.TheVariants.{Length, Version, Counts, Offsets, State, Rule, Repeat, Layer, Lowering, Handover, Leaf, Fields, Ground, Order, Sheet, Unlike, Group, Start, NoRule, Disabled, Room, Records, Groups, Results, Totals}
 
@@ -97,3 +99,7 @@ refused_at = at_place refusal
 -- What the test of this number finds that points at nothing.
 abbrev pub refused_if : ℕ → Bool → Result (Unit {0}) Refusal
 refused_if = where_bad refusal
+
+-- The words of a refusal as the programs print them; 32 is a space.
+abbrev pub refusal_text : Refusal → List ℕ
+refusal_text r = codes "refused " ++ (decimal r.number ++ (32 ∷ decimal r.place))

@@ -1,10 +1,6 @@
 -- A refusal (document 01, "What a call says"): the number of the test that refuses, and the place at which it does.
 use Rattle.std.specs.Prelude.{ℕ}
-
--- A refusal's number and place.
-pub record Refusal : Type 0 where
-  pub number : ℕ
-  pub place : ℕ
+use Rattle.refusals.specs.declared.Refusal.{Refusal}
 
 abbrev pub refusal : ℕ → ℕ → Refusal
 refusal n k = record { number = n; place = k }

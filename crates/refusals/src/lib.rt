@@ -6,7 +6,6 @@ ghost use Rattle.refusals.specs.Refusal.{refusal};
 ghost use Rattle.refusals.specs.Code.{number_of, refused_at, refused_if};
 
 use std::fmt;
-use std::marker::Model;
 
 // What is wrong. The document has a number for each.
 #[derive(Clone, Copy, Debug, PartialEq, Eq)]
@@ -63,25 +62,12 @@ pub enum Fault {
     Totals,
 }
 
-// A fault and its place. In a clause it is the fault's number and the place.
+// A refusal: the number of its fault, and its place. It is no `Fault` with a place, as `codes::check_refusal` and
+// `codes::call_refusal` take any number.
 #[derive(Clone, Copy, Debug)]
 pub struct Refusal {
-    fault: Fault,
-    place: u32,
-}
-
-impl Model for Refusal {
-    ghost use Rattle.std.specs.Prelude.{refl};
-    ghost use Rattle.refusals.specs.Refusal.{Refusal as Numbered, refusal};
-    ghost use Rattle.refusals.specs.Code.{number_of, fault_of, fault-number};
-
-    ghost Value = { Numbered };
-
-    ghost view = { λ a. refusal (number_of a.fault) a.place };
-
-    ghost inverse = { λ r. record { fault = fault_of r.number; place = r.place } };
-
-    ghost inverse_ok = { λ a h. rw (fault-number a.fault) refl };
+    pub number: u32,
+    pub place: u32,
 }
 
 impl Fault {
@@ -122,7 +108,10 @@ impl Fault {
     pub fn refuse(self, place: u32) -> Refusal
         ensures { result ≡ refusal (number_of self) place }
     {
-        Refusal { fault: self, place }
+        Refusal {
+            number: self.number(),
+            place,
+        }
     }
 
     // Refuses at the place that a test found, where it found one.
@@ -148,7 +137,7 @@ impl Refusal {
     pub fn number(self) -> u32
         ensures { result ≡ self.number }
     {
-        self.fault.number()
+        self.number
     }
 
     // Its place.
@@ -164,7 +153,7 @@ impl Refusal {
         ensures { result ≡ refusal self.number (n + self.place) }
     {
         Refusal {
-            fault: self.fault,
+            number: self.number,
             place: u32::from(n) + self.place,
         }
     }
@@ -172,7 +161,12 @@ impl Refusal {
 
 // The number and the place, as the programs print them.
 impl fmt::Display for Refusal {
+    ghost use Rattle.std.specs.Prelude.{Some};
+    ghost use Rattle.refusals.specs.Code.{refusal_text};
+
+    ghost output = { λ r. Some (refusal_text r) };
+
     fn fmt<W: fmt::Write>(&self, f: &mut fmt::Formatter<W>) -> fmt::Result {
-        write!(f, "refused {} {}", self.number(), self.place)
+        write!(f, "refused {} {}", self.number, self.place)
     }
 }

@@ -18,8 +18,9 @@ use Rattle.theory.specs.Judge.{Test, judge, Passes}
 use Rattle.theory.proofs.Judge.Laws.{judge_map, judge-passes}
 use Rattle.shape.specs.Shape.{bad_record, not_after, in_layer, too_large, bad_state, bad_fields, bad_rule, out_of_order, bad_layer}
 use Rattle.shape.specs.Shape.{section_tests, by_shape}
-use Rattle.shape.specs.Code.{tested_of, header_in}
-use Rattle.refusals.specs.Refusal.{Refusal, refusal}
+use Rattle.shape.specs.Code.{tested_of, header_in, refusal_of}
+use Rattle.refusals.specs.declared.Refusal.{Refusal}
+use Rattle.refusals.specs.Refusal.{refusal}
 use Rattle.shape.specs.declared.sound.Docket.{Docket}
 
 -- ---- Offsets
@@ -184,3 +185,7 @@ module _ {A : Type 0} (refuse : Refusal → A) (f : Header → A) (a : A) (s : R
 
   pub sound_else : (r : Refusal) → s ≡ Err r → a ≡ refuse r → a ≡ by_shape refuse f t
   sound_else r u g = g ∙ ap (by_shape refuse f) (ap header_in (sym u) ∙ e)
+
+-- A call that returns the refusal q of a refused docket passes it back.
+pub passed_back : (s : Result Docket Refusal) (r q : Refusal) → s ≡ Err r → q ≡ refusal_of (header_in s) → s ≡ Err q
+passed_back s r q u p = u ∙ ap Err (sym (p ∙ ap (λ x. refusal_of (header_in x)) u))

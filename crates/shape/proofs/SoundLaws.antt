@@ -21,7 +21,8 @@ use Rattle.theory.proofs.Judge.Laws.{judge-passes, passes-judge, passes_both}
 use Rattle.shape.specs.Shape.{wrong_version, count_faults, offset_faults, nth, other_bits, too_many_fixed, bad_record}
 use Rattle.shape.specs.Shape.{same_before, same_rule, in_layer, too_large}
 use Rattle.shape.specs.Shape.{bad_state, bad_rule, repeats, out_of_order, bad_layer, section_tests, header_tests, shape_tests, header_shape, shape_of}
-use Rattle.refusals.specs.Refusal.{Refusal, refusal}
+use Rattle.refusals.specs.declared.Refusal.{Refusal}
+use Rattle.refusals.specs.Refusal.{refusal}
 use Rattle.shape.specs.declared.sound.Docket.{Docket}
 use Rattle.std.specs.Prelude.{Result, Ok, Err}
 use Rattle.shape.proofs.MarkLaws.{pair_same}
@@ -358,9 +359,12 @@ shape_sound b h g =
     let at : SoundShape b (header_of b) = subst (SoundShape b) g.header g in
     passes-judge refuse (Ok (header_of b)) (shape_tests b (header_of b)) (sound_passes b (header_of b) at) ∙ ap Ok (sym g.header)
 
-pub sound_at : (b : List ℕ) (h : Header) (s : Result Header Refusal) → s ≡ header_shape b (header_of b) → s ≡ Ok h → shape_of b ≡ Ok h
+pub sound_at : (b : List ℕ) (s : Result Header Refusal) (h : Header) → s ≡ shape_of b → s ≡ Ok h → SoundShape b h
+sound_at b s h e u = sound_shape b h (sym e ∙ u)
+
+pub shape_at : (b : List ℕ) (h : Header) (s : Result Header Refusal) → s ≡ header_shape b (header_of b) → s ≡ Ok h → shape_of b ≡ Ok h
 unfolding shape_of
-sound_at b h s e u = sym e ∙ u
+shape_at b h s e u = sym e ∙ u
 
 -- A docket's bytes and header are of sound shape.
 pub docket_sound : (d : Docket) → SoundShape d.bytes.now d.header

@@ -9,7 +9,8 @@ use Rattle.format.specs.declared.Header.{Header}
 use Rattle.format.specs.declared.Rule.{Rule}
 use Rattle.shape.specs.Shape.{same_before, same_after, in_layer, section_tests}
 use Rattle.shape.specs.declared.sound.Docket.{Docket}
-use Rattle.refusals.specs.Refusal.{Refusal, refusal}
+use Rattle.refusals.specs.declared.Refusal.{Refusal}
+use Rattle.refusals.specs.Refusal.{refusal}
 
 -- Rules x and y have the same before pair and, if whole, the same after pair.
 abbrev pub same_fields : Bool → Rule → Rule → Bool
@@ -43,6 +44,11 @@ tested_of z states rules layers = judge (λ n k. Err (refusal n k)) (Ok tt) (sec
 abbrev pub header_in : Result Docket Refusal → Result Header Refusal
 header_in (Ok d) = Ok d.header
 header_in (Err r) = Err r
+
+-- The refusal of a docket that the tests refuse; 0, 0 for one that passes them.
+abbrev pub refusal_of : Result Header Refusal → Refusal
+refusal_of (Ok h) = refusal 0 0
+refusal_of (Err r) = r
 
 -- The sections have the lengths that their records need.
 pub record Lengths (b : List ℕ) (h : Header) : Type 0 where

@@ -5,7 +5,7 @@ use Rattle.theory.specs.Below.{first_below}
 use Rattle.theory.specs.Order.{lex_less}
 use Rattle.shape.specs.Shape.{nth, count_faults, bad_state, repeats, out_of_order, bad_layer, header_shape, shape_of}
 use Rattle.format.specs.declared.Header.{Header}
-use Rattle.refusals.specs.Refusal.{Refusal}
+use Rattle.refusals.specs.declared.Refusal.{Refusal}
 
 -- The names that computed cases of tests 1 to 8 unfold.
 unfoldable pub shaping : ℕ

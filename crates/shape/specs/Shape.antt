@@ -8,7 +8,8 @@ use Rattle.format.specs.Format.{flags, is_input, fixed_of, rule_layer, rule_of, 
 use Rattle.format.specs.declared.Sizes.{Sizes}
 use Rattle.format.specs.declared.Header.{Header}
 use Rattle.format.specs.declared.Rule.{Rule}
-use Rattle.refusals.specs.Refusal.{Refusal, refusal}
+use Rattle.refusals.specs.declared.Refusal.{Refusal}
+use Rattle.refusals.specs.Refusal.{refusal}
 
 -- ---- Tests of the header
 

@@ -9,7 +9,7 @@ ghost use Rattle.theory.specs.Below.Ends.{first_where};
 ghost use Rattle.format.specs.Code.{Value};
 ghost use Rattle.shape.specs.Shape.{wrong_version, count_faults, offset_faults, nth, bad_record, bad_state, bad_rule, repeats, out_of_order};
 ghost use Rattle.shape.specs.Shape.{in_layer, too_large, bad_layer, header_shape, shape_of};
-ghost use Rattle.shape.specs.Code.{alike, again, mark_of, used_below, tested_of, header_in};
+ghost use Rattle.shape.specs.Code.{alike, again, mark_of, used_below, tested_of, header_in, refusal_of};
 
 mod sound;
 
@@ -113,7 +113,7 @@ fn rule_alike(rules: &[u8], whole: bool, other: Rule, e: u16) -> bool
     ensures { result ≡ alike rules.now whole other e }
 {
     let one = format::read_rule(rules, e);
-    (one.p == other.p) & (one.q == other.q) & (!whole | (one.p2 == other.p2) & (one.q2 == other.q2))
+    one.p == other.p && (one.q == other.q) & (!whole | (one.p2 == other.p2) & (one.q2 == other.q2))
 }
 
 // Whether an earlier rule is like rule r. No search where it is not marked.
@@ -281,4 +281,18 @@ pub fn read_shape(bytes: &[u8]) -> Result<Docket<'_>, Refusal>
 {
     let header = header_shape(bytes, format::read_header(bytes))?;
     Ok(Docket { bytes, header })
+}
+
+// The refusal of a docket that the tests refuse; 0, 0 for one that passes them. The calls of the machine return it from the branch of
+// their `let .. else`.
+pub fn refusal_of(read: Result<Docket<'_>, Refusal>) -> Refusal
+    ensures { result ≡ refusal_of (header_in read.entry) }
+{
+    match read {
+        Ok(_) => Refusal {
+            number: 0,
+            place: 0,
+        },
+        Err(r) => r,
+    }
 }

@@ -54,7 +54,8 @@ pub fn distance(a: u64, b: u64) -> u64
 fn same_modulo(m: u64, a: u64, b: u64) -> bool
     ensures { result ≡ congruent m a b }
 {
-    distance(a, b).is_multiple_of(m)
+    let apart = distance(a, b);
+    apart == 0 || apart.is_multiple_of(m)
 }
 
 // Whether a is at most b; by remainders, whether they are the same modulo m.

@@ -6,7 +6,8 @@ use Rattle.theory.specs.Tree.{Tree, Walked, next, refused}
 use Rattle.theory.specs.Sheet.{Sheet, sheet_answer}
 use Rattle.format.specs.Format.{header_of, Sections, sections_of, protocol_of, tree_of}
 use Rattle.format.specs.declared.Sizes.{Sizes}
-use Rattle.refusals.specs.Refusal.{Refusal, refusal}
+use Rattle.refusals.specs.declared.Refusal.{Refusal}
+use Rattle.refusals.specs.Refusal.{refusal}
 use Rattle.threshold.specs.Numbers.{sheet_number, sheet_limit, sheet_weight, multiplier_of}
 use Rattle.checker.specs.Check.{check_of, on_accepted}
 use Rattle.sheetshape.specs.SheetShape.{sheet_header, numbers_in, first_nodes, second_nodes, leaves_in, sheet_fault}

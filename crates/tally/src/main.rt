@@ -15,10 +15,12 @@ fn print_counts(rt: &impl Print, counts: &[u32], n: u16) -> io::Result<usize>
     ensures { IfOk result (λ k. k ≡ min n (length counts.now)) }
 {
     let end = usize::from(n).min(counts.len());
+    let mut printed = 0;
     for count in &counts[..end] {
         print!(rt; " {count}")?;
+        printed += 1;
     }
-    Ok(end)
+    Ok(printed)
 }
 
 // Reads n and the docket, and answers how many bytes of the docket there are.

@@ -20,7 +20,7 @@ use Rattle.theory.proofs.Machine.Rest.{RunsTo, runs_to_none, runs_to_more, runs_
 use Rattle.format.specs.Format.{protocol_in, layers_in, weight_in}
 use Rattle.format.specs.declared.Header.{Header}
 use Rattle.machine.specs.Code.{Replies}
-use Rattle.refusals.specs.Refusal.{Refusal}
+use Rattle.refusals.specs.declared.Refusal.{Refusal}
 use Rattle.totals.specs.Totals.{steps_to_rest}
 use Rattle.totals.specs.Code.{Runs, Group, Turning, goes_on, agrees_on, added, with_start}
 use Rattle.totals.specs.declared.Totals.{Totals}

@@ -28,7 +28,7 @@ use Rattle.theory.proofs.Machine.Laws.{admit_on, admitted-after}
 use Rattle.format.specs.Format.{sections_of, protocol_of, protocol_in, layers_in, weight_in}
 use Rattle.format.specs.declared.Header.{Header}
 use Rattle.machine.specs.Calls.{verdict_as, verdict_answer}
-use Rattle.refusals.specs.Refusal.{Refusal}
+use Rattle.refusals.specs.declared.Refusal.{Refusal}
 use Rattle.starts.specs.Code.{AtLeastFixed}
 use Rattle.totals.specs.Totals.{is_agreed, steps_to_rest, rests_on, resting_on, steps_at, totals_of, first_most, Allowed}
 use Rattle.totals.specs.Code.{Runs, Group, agrees_on, Room, added, with_start, needs_most, counted, Tallying}

@@ -12,7 +12,8 @@ use Rattle.theory.specs.Ladder.{Layers}
 use Rattle.theory.specs.Starts.{inputs_of}
 use Rattle.format.specs.Format.{header_of, sections_of, protocol_of, protocol_in, layers_in, weight_in}
 use Rattle.format.specs.declared.Header.{Header}
-use Rattle.refusals.specs.Refusal.{Refusal, refusal}
+use Rattle.refusals.specs.declared.Refusal.{Refusal}
+use Rattle.refusals.specs.Refusal.{refusal}
 use Rattle.shape.specs.Shape.{outside}
 use Rattle.shape.specs.declared.sound.Docket.{Docket}
 use Rattle.shape.proofs.SoundLaws.{docket_sound}

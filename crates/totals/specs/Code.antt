@@ -11,7 +11,7 @@ use Rattle.theory.proofs.Machine.Rest.{RunsTo}
 use Rattle.format.specs.Format.{protocol_in, layers_in, weight_in}
 use Rattle.format.specs.declared.Header.{Header}
 use Rattle.shape.specs.Sound.{SoundShape}
-use Rattle.refusals.specs.Refusal.{Refusal}
+use Rattle.refusals.specs.declared.Refusal.{Refusal}
 use Rattle.totals.specs.Totals.{steps_to_rest, rests_on, resting_on, steps_at}
 use Rattle.totals.specs.declared.Totals.{Totals}
 

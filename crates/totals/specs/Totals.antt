@@ -9,7 +9,8 @@ use Rattle.theory.specs.Ladder.{Layers}
 use Rattle.theory.specs.Starts.{inputs_of, starts, start_at}
 use Rattle.theory.specs.Machine.{rest_numbers, rest_of}
 use Rattle.format.specs.Format.{header_of, protocol_in, layers_in, weight_in}
-use Rattle.refusals.specs.Refusal.{Refusal, refusal}
+use Rattle.refusals.specs.declared.Refusal.{Refusal}
+use Rattle.refusals.specs.Refusal.{refusal}
 use Rattle.shape.specs.Shape.{outside}
 use Rattle.checker.specs.Check.{check_of, on_accepted}
 use Rattle.totals.specs.declared.Totals.{Totals}

@@ -2,7 +2,7 @@
 -- the size of a node's set.
 use Rattle.std.specs.Prelude.{◌≡◌, Bool, cond, ◌||◌, List, ℕ, eqb, Result, Ok, Err}
 use Rattle.theory.specs.Tree.{Walked, next, refused, set_size}
-use Rattle.refusals.specs.Refusal.{Refusal}
+use Rattle.refusals.specs.declared.Refusal.{Refusal}
 use Rattle.format.specs.Format.{node_kind, node_set}
 use Rattle.format.specs.declared.Sizes.{Sizes}
 use Rattle.threshold.specs.declared.Leaves.{Leaves}

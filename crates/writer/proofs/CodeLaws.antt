@@ -1,13 +1,13 @@
 -- Laws for the functions of the writer. Assumes nothing.
-use Rattle.std.specs.Prelude.{◌≡◌, Bool, true, false, not, ◌||◌, ℕ, zero, suc, ◌+◌, ◌*◌, ◌/◌, ◌%◌, ◌≤◌, ◌<◌, ltb, eqb, Option, Some, None, Result, Ok, Err}
+use Rattle.std.specs.Prelude.{◌≡◌, Bool, true, false, not, ◌||◌, ℕ, zero, suc, ◌+◌, ◌*◌, ◌/◌, ◌%◌, ◌-◌, ◌≤◌, ◌<◌, ltb, eqb, Option, Some, None, Result, Ok, Err}
 use Rattle.std.proofs.Math.Path.{refl, sym, ap, subst}
 use Rattle.std.proofs.Common.{◌∙◌, mul_comm, arith, eqb-true, eq-eqb, ne_eqb, lt-ltb, le-ltb, ltb-true, ltb-false, length-append, drop-drop}
-use mathlib.Core.List.{List, [], ◌∷◌, ◌++◌, append_assoc}
+use mathlib.Core.List.{List, [], ◌∷◌, ◌++◌, append_assoc, append-nil}
 use Rattle.std.proofs.lemmas.Bool.{eqb-false}
 use Rattle.std.proofs.lemmas.List.Edits.{paste_more}
 use Rattle.std.proofs.Math.Arith.{mod-mul}
-use Rattle.std.proofs.Math.ListN.{length, drop, set, get_or}
-use Rattle.std.proofs.Math.Seq.{paste, take-append_seam, drop-append-add}
+use Rattle.std.proofs.Math.ListN.{length, take, drop, set, get_or, length-take, length-drop, drop_of_length-le}
+use Rattle.std.proofs.Math.Seq.{paste, take_all, take-length, take-append_seam, drop-append-add}
 use Rattle.theory.proofs.Bool.Laws.{by_test}
 use Rattle.theory.specs.Below.{Clear}
 use Rattle.theory.specs.Below.Ends.{first_where}
@@ -18,7 +18,8 @@ use Rattle.theory.proofs.Judge.Laws.{judge_done, only_refuses, only_passes, judg
 use Rattle.format.specs.Format.{Sections, sections}
 use Rattle.format.specs.declared.Sizes.{Sizes}
 use Rattle.format.specs.declared.Header.{Header}
-use Rattle.refusals.specs.Refusal.{Refusal, refusal}
+use Rattle.refusals.specs.declared.Refusal.{Refusal}
+use Rattle.refusals.specs.Refusal.{refusal}
 use Rattle.shape.specs.Shape.{nth, wrong_version, count_faults, section_tests}
 use Rattle.shape.proofs.ShapeLaws.{tested_passes}
 use Rattle.shape.specs.Sound.{Limits}
@@ -235,6 +236,27 @@ bytes_more d ns b i l h e some room el eh =
     ap (λ f. set (set f (2 * i) l) (2 * i + 1) h) e ∙ ap (λ f. set f (2 * i + 1) h) one ∙ two ∙ ap (paste d 0 s) last
 
 -- ---- The output
+
+-- Bytes copied over those from `at` on.
+module _ (out part ys : List ℕ) (at : ℕ) (room : at + length part ≤ length out)
+    (e : ys ≡ take (length part) part ++ drop (length part) (take (length out - at) (drop at out))) where
+  pub copied : take at out ++ (ys ++ drop (length out - at) (drop at out)) ≡ replaced out at part
+  unfolding replaced
+  copied =
+      let k = length out - at in
+      let rest : length (drop at out) ≡ k = length-drop at out in
+      let all : take k (drop at out) ≡ drop at out = take_all k (drop at out) (omega arith) in
+      let none : drop k (drop at out) ≡ [] = drop_of_length-le (drop at out) {i = k} (omega arith) in
+      let bytes : ys ≡ part ++ drop (at + length part) out =
+      e ∙ ap (λ f. f ++ drop (length part) (take k (drop at out))) (take-length part)
+      ∙ ap (λ f. part ++ drop (length part) f) all ∙ ap (λ f. part ++ f) (drop-drop (length part) at out) in
+      ap (λ f. take at out ++ (ys ++ f)) none ∙ ap (λ f. take at out ++ f) (append-nil ys ∙ bytes)
+
+  pub copied_length : length (take at out ++ (ys ++ drop (length out - at) (drop at out))) ≡ length out
+  unfolding replaced
+  copied_length =
+      ap length copied
+      ∙ (let sum : length (replaced out at part) ≡ length out = simp (length-append, length-take, length-drop) (omega arith) in sum)
 
 -- The first bytes of the output o are `front`, and behind them stands what was there.
 pub record Begun (old front o : List ℕ) (at : ℕ) : Type 0 where

@@ -3,7 +3,8 @@ use Rattle.std.specs.Prelude.{List, [], ◌++◌, ℕ, ◌+◌, min, length, tak
 use Rattle.theory.specs.Judge.{judge}
 use Rattle.format.specs.Format.{Sections, sections}
 use Rattle.format.specs.declared.Sizes.{Sizes}
-use Rattle.refusals.specs.Refusal.{Refusal, refusal}
+use Rattle.refusals.specs.declared.Refusal.{Refusal}
+use Rattle.refusals.specs.Refusal.{refusal}
 use Rattle.writer.specs.Write.{record_tests, part_tests}
 
 -- A count in 16 bits: the greatest stands for all that are too great, which every limit refuses.

@@ -5,7 +5,7 @@ use Rattle.format.specs.Samples.{broadcast, majority, two_outcomes, parity, seed
 use Rattle.shape.specs.Samples.{shaping}
 use Rattle.leaf.specs.Leaf.{bad_leaf}
 use Rattle.writer.specs.Write.{header_bytes, docket_of, write_of, output_of}
-use Rattle.refusals.specs.Refusal.{Refusal}
+use Rattle.refusals.specs.declared.Refusal.{Refusal}
 
 -- The names that computed cases of the writer unfold.
 unfoldable pub writing : ℕ

@@ -7,7 +7,8 @@ use Rattle.format.specs.Format.{state_width, states_length, rules_length, layers
 use Rattle.format.specs.declared.Sizes.{Sizes}
 use Rattle.format.specs.declared.Offsets.{Offsets}
 use Rattle.format.specs.declared.Header.{Header}
-use Rattle.refusals.specs.Refusal.{Refusal, refusal}
+use Rattle.refusals.specs.declared.Refusal.{Refusal}
+use Rattle.refusals.specs.Refusal.{refusal}
 use Rattle.shape.specs.Shape.{nth, version_test, count_test, section_tests}
 use Rattle.leaf.specs.Leaf.{leaf_test}
 use Rattle.writer.specs.declared.Lengths.{Lengths}

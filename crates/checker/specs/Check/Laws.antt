@@ -12,7 +12,8 @@ use Rattle.theory.specs.Tree.{Walked, widest}
 use Rattle.format.specs.Format.{header_of, Sections, sections, sections_of, layer_weight, protocol_of, layers_of, tree_of, protocol_in, layers_in, weight_in}
 use Rattle.format.specs.declared.Sizes.{Sizes}
 use Rattle.format.specs.declared.Header.{Header}
-use Rattle.refusals.specs.Refusal.{Refusal, refusal}
+use Rattle.refusals.specs.declared.Refusal.{Refusal}
+use Rattle.refusals.specs.Refusal.{refusal}
 use Rattle.shape.specs.Shape.{by_shape, shape_of}
 use Rattle.shape.specs.declared.sound.Docket.{Docket}
 use Rattle.shape.specs.Sound.{SoundShape}

@@ -1,6 +1,7 @@
 -- The numbers that C sees tell the answers. Assumes nothing.
 use Rattle.checker.specs.declared.Summary.{Summary}
-use Rattle.refusals.specs.Refusal.{Refusal, refusal}
+use Rattle.refusals.specs.declared.Refusal.{Refusal}
+use Rattle.refusals.specs.Refusal.{refusal}
 use Rattle.std.specs.Prelude.{◌≡◌, Bool, cond, List, [], ◌∷◌, ◌++◌, ◌↔◌, ◌⊎◌, ℕ, ◌≤◌, ◌<◌, ltb, Result, Ok, Err, Option, Some, None}
 use Rattle.std.proofs.Math.Path.{refl}
 use Rattle.std.proofs.Common.{sym, ap, ◌∙◌, subst, true≢false, append-nil, inr, ⊎_elim}

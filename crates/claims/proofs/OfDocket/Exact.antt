@@ -19,7 +19,7 @@ use Rattle.theory.specs.Claims.{Certified}
 use Rattle.theory.proofs.Claims.Proved.{theorems}
 use Rattle.format.specs.Format.{header_of, Sections, sections_of, protocol_in, layers_in, weight_in, weights_of}
 use Rattle.format.specs.declared.Header.{Header}
-use Rattle.refusals.specs.Refusal.{Refusal}
+use Rattle.refusals.specs.declared.Refusal.{Refusal}
 use Rattle.shape.specs.Shape.{by_shape}
 use Rattle.shape.specs.Sound.{SoundShape}
 use Rattle.shape.proofs.SoundLaws.{shape_sound}

@@ -1,5 +1,5 @@
 -- A docket that is refused by 10 points at the lowest rule at which some group breaks the handover. Assumes nothing.
-use Rattle.refusals.specs.Refusal.{Refusal}
+use Rattle.refusals.specs.declared.Refusal.{Refusal}
 use Rattle.std.specs.Prelude.{◌≡◌, refl, true, List, [], ◌∷◌, ℕ, ◌<◌, Result, Ok, Err}
 use Rattle.std.proofs.Common.{sym, ap, ◌∙◌, subst, true≢false, ⊎_elim, arith}
 use Rattle.std.proofs.lemmas.Bool.{not-true, not-false}

@@ -1,6 +1,7 @@
 -- Which refusals a call can give, what a refusal of tests 1 to 8 means, and that a refused call changes nothing. Assumes
 -- nothing.
-use Rattle.refusals.specs.Refusal.{Refusal, refusal}
+use Rattle.refusals.specs.declared.Refusal.{Refusal}
+use Rattle.refusals.specs.Refusal.{refusal}
 use Rattle.std.specs.Prelude.{◌≡◌, Bool, false, cond, ◌||◌, ◌↔◌, ltb, eqb, Result, Ok, Err, Option, Some, None}
 use Rattle.std.proofs.Math.Path.{refl, ap}
 use Rattle.std.proofs.Common.{sym, ◌∙◌, true≢false, ⊎_elim, arith}

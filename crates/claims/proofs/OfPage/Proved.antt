@@ -1,6 +1,7 @@
 -- The claims about pages are proved. Assumes nothing.
 use Rattle.std.specs.Prelude.{Result}
-use Rattle.refusals.specs.Refusal.{Refusal, refusal}
+use Rattle.refusals.specs.declared.Refusal.{Refusal}
+use Rattle.refusals.specs.Refusal.{refusal}
 use Rattle.std.specs.Prelude.{◌≡◌, Bool, false, not, ◌||◌, ◌↔◌, ℕ, suc, ◌+◌, ◌*◌, ◌/◌, ◌%◌, ◌≤◌, ◌<◌, eqb, get_or, drop, Ok, Err}
 use Rattle.std.proofs.Math.Path.{refl, sym, ap, subst}
 use Rattle.std.proofs.Common.{◌∙◌, ⊎_elim, zero-mul, mul-pos, div-add-mod', mul-div_cancel, get_or-take, get_or-drop}

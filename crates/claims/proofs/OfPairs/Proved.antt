@@ -1,5 +1,5 @@
 -- The claims about the number of pairs are proved. Assumes nothing.
-use Rattle.refusals.specs.Refusal.{Refusal}
+use Rattle.refusals.specs.declared.Refusal.{Refusal}
 use Rattle.std.specs.Prelude.{Result}
 use Rattle.std.specs.Prelude.{◌≡◌, Bool, false, ◌↔◌, Ok}
 use Rattle.std.proofs.Math.Path.{refl, ap}

@@ -2,7 +2,8 @@
 use Rattle.std.specs.Result.{is_ok}
 use Rattle.std.specs.Prelude.{Result}
 use Rattle.checker.specs.declared.Summary.{Summary}
-use Rattle.refusals.specs.Refusal.{Refusal, refusal}
+use Rattle.refusals.specs.declared.Refusal.{Refusal}
+use Rattle.refusals.specs.Refusal.{refusal}
 use Rattle.std.specs.Prelude.{◌≡◌, refl, List, ◌++◌, map, length, Ok, Err}
 use Rattle.std.proofs.Math.Path.{sym, ap}
 use Rattle.std.proofs.Common.{◌∙◌, subst, inl, inr}

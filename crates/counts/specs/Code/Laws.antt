@@ -25,7 +25,8 @@ use Rattle.format.specs.Code.{Value}
 use Rattle.format.specs.Format.{fixed_of, is_input, rule_of, protocol_of}
 use Rattle.format.specs.declared.Sizes.{Sizes}
 use Rattle.format.specs.declared.Rule.{Rule}
-use Rattle.refusals.specs.Refusal.{Refusal, refusal}
+use Rattle.refusals.specs.declared.Refusal.{Refusal}
+use Rattle.refusals.specs.Refusal.{refusal}
 use Rattle.refusals.specs.Code.{refused_if}
 use Rattle.counts.specs.Code.{counts_test, chosen_of, partners_of, pair_enabled, Most}
 

@@ -1,5 +1,5 @@
 -- Sets in the facts' words, marks, and the fresh facts. Assumes nothing.
-use Rattle.std.specs.Prelude.{◌≡◌, refl, Bool, true, not, ◌&&◌, ◌||◌, List, [], ◌∷◌, map, ltb, leb, length, get_or, set, replicate}
+use Rattle.std.specs.Prelude.{◌≡◌, refl, Bool, true, not, cond, ◌&&◌, ◌||◌, List, [], ◌∷◌, map, ltb, leb, length, get_or, set, replicate}
 use Rattle.std.proofs.Math.Path.{sym, ap, fun_ext}
 use Rattle.std.proofs.Common.{◌∙◌, ap₂, arith}
 use Rattle.std.proofs.Math.Bool.{false, and-true, and-false, or_comm, or-false}
@@ -53,6 +53,16 @@ run_words (a ∷ []) k x y z w l hx hy hz hw = absurd (omega (arith, l))
 run_words (a ∷ b ∷ []) k x y z w l hx hy hz hw = absurd (omega (arith, l))
 run_words (a ∷ b ∷ c ∷ []) k x y z w l hx hy hz hw = absurd (omega (arith, l))
 run_words (a ∷ b ∷ c ∷ d ∷ e ∷ ws) k x y z w l hx hy hz hw = absurd (omega (arith, l))
+
+-- The same, where each is read at a party that is k.
+pub run_words_at : (ws : List (List ℕ)) (k f g h i x y z w : ℕ) → length ws ≡ 4 → x ≡ word_of 1 (get_or ws 0 []) f → f ≡ k
+    → y ≡ word_of 1 (get_or ws 1 []) g → g ≡ k → z ≡ word_of 1 (get_or ws 2 []) h → h ≡ k → w ≡ word_of 1 (get_or ws 3 []) i → i ≡ k
+    → in_words (x ∷ y ∷ z ∷ w ∷ []) ≡ rules_of_run ws k
+run_words_at ws k f g h i x y z w l hx ef hy eg hz eh hw ei =
+    run_words ws k x y z w l (hx ∙ at 0 f ef) (hy ∙ at 1 g eg) (hz ∙ at 2 h eh) (hw ∙ at 3 i ei)
+  where
+    at : (q j : ℕ) → j ≡ k → word_of 1 (get_or ws q []) j ≡ word_of 1 (get_or ws q []) k
+    at q j e = ap (λ (n : ℕ). word_of 1 (get_or ws q []) n) e
 
 -- The parties that have a word, of three and of the two ends.
 party_word : (k : ℕ) → has_word 0 3 k ≡ ltb k 3
@@ -178,6 +188,11 @@ party_marked F G k A h = h ∙ ap (λ (t : Bool). extend F k (only_if t A)) (par
 pub end_marked : (F G : ℕ → ℕ → Bool) (k : ℕ) (A : ℕ → Bool) → G ≡ extend F k (only_if (has_word 1 2 k) A) → G ≡ extend F k (only_if (is_end k) A)
 end_marked F G k A h = h ∙ ap (λ (t : Bool). extend F k (only_if t A)) (end_word k)
 
+-- The same, where party j is party k.
+pub end_marked_at : (F G : ℕ → ℕ → Bool) (j k : ℕ) (A : ℕ → Bool) → G ≡ extend F j (only_if (has_word 1 2 j) A) → j ≡ k
+    → G ≡ extend F k (only_if (is_end k) A)
+end_marked_at F G j k A h e = end_marked F G j A h ∙ ap (λ (n : ℕ). extend F n (only_if (is_end n) A)) e
+
 -- The words of each run are joined with those of u, four for each.
 pub run_marked : (ws : List (List ℕ)) (u : List ℕ) (k : ℕ) (a b c d : List ℕ) → length ws ≡ 4 → length u ≡ 4
     → sets_of 1 a ≡ extend (sets_of 1 (get_or ws 0 [])) k (only_if (has_word 1 2 k) (member (get_or u 0 0)))
@@ -209,7 +224,39 @@ run_marked (w ∷ x ∷ y ∷ z ∷ []) u k a b c d l m ha hb hc hd = fun_ext (�
         let m : length u ≤ suc (suc (suc (suc q))) = omega arith in
         rw (get_or-eq_default u 0 m, member_none i, and-false (is_end k), and-false (eqb j k))
 
-pub ruleset joins = (joined_passed, joined_failed, party_marked, end_marked, run_marked)
+-- Words taken from marked words one by one. The code takes them whole; by these laws it may do either, so that must-fail edits
+-- which take one word elsewhere are refused for what that word says.
+module _ (b : ℕ) (X : ℕ → ℕ → Bool) where
+  taken : (ws vs : List ℕ) (k s q : ℕ) → k - b ≡ q → get_or vs q 0 ≡ get_or ws q 0 → sets_of b ws ≡ X → sets_of b vs k s ≡ X k s
+  unfolding sets_of word_of
+  taken ws vs k s q e f h =
+      ap (λ (y : ℕ). member (cond (leb b k) y 0) s) (ap (λ (j : ℕ). get_or vs j 0) e ∙ f ∙ sym (ap (λ (j : ℕ). get_or ws j 0) e))
+      ∙ ap (λ (F : ℕ → ℕ → Bool). F k s) h
+
+  pub pair_marked : (ws vs : List ℕ) → length vs ≡ 2 → sets_of b ws ≡ X → sets_of b vs ≡ X
+      → sets_of b (get_or ws 0 0 ∷ get_or vs 1 0 ∷ []) ≡ X
+  pair_marked ws vs l g h = fun_ext (λ k. fun_ext (λ s. at k s (k - b) refl))
+    where
+      at : (k s q : ℕ) → k - b ≡ q → sets_of b (get_or ws 0 0 ∷ get_or vs 1 0 ∷ []) k s ≡ X k s
+      at k s zero e = taken ws (get_or ws 0 0 ∷ get_or vs 1 0 ∷ []) k s zero e refl g
+      at k s (suc zero) e = taken vs (get_or ws 0 0 ∷ get_or vs 1 0 ∷ []) k s (suc zero) e refl h
+      at k s (suc (suc q)) e =
+          taken vs (get_or ws 0 0 ∷ get_or vs 1 0 ∷ []) k s (suc (suc q)) e
+          (let m : length vs ≤ suc (suc q) = omega arith in sym (get_or-eq_default vs 0 m)) h
+
+  pub three_marked : (ws vs us : List ℕ) → length us ≡ 3 → sets_of b ws ≡ X → sets_of b vs ≡ X → sets_of b us ≡ X
+      → sets_of b (get_or ws 0 0 ∷ get_or vs 1 0 ∷ get_or us 2 0 ∷ []) ≡ X
+  three_marked ws vs us l f g h = fun_ext (λ k. fun_ext (λ s. at k s (k - b) refl))
+    where
+      at : (k s q : ℕ) → k - b ≡ q → sets_of b (get_or ws 0 0 ∷ get_or vs 1 0 ∷ get_or us 2 0 ∷ []) k s ≡ X k s
+      at k s zero e = taken ws (get_or ws 0 0 ∷ get_or vs 1 0 ∷ get_or us 2 0 ∷ []) k s zero e refl f
+      at k s (suc zero) e = taken vs (get_or ws 0 0 ∷ get_or vs 1 0 ∷ get_or us 2 0 ∷ []) k s (suc zero) e refl g
+      at k s (suc (suc zero)) e = taken us (get_or ws 0 0 ∷ get_or vs 1 0 ∷ get_or us 2 0 ∷ []) k s (suc (suc zero)) e refl h
+      at k s (suc (suc (suc q))) e =
+          taken us (get_or ws 0 0 ∷ get_or vs 1 0 ∷ get_or us 2 0 ∷ []) k s (suc (suc (suc q))) e
+          (let m : length us ≤ suc (suc (suc q)) = omega arith in sym (get_or-eq_default us 0 m)) h
+
+pub ruleset joins = (joined_passed, joined_failed, party_marked, end_marked, run_marked, pair_marked, three_marked)
 
 -- One sort of facts is extended, the others are as they were.
 module _ (F G : theory.Facts) (k : ℕ) (A : ℕ → Bool) where

@@ -7,12 +7,12 @@ use Rattle.std.proofs.Math.Logic.{by_cases}
 use Prim.Native.Nat.{ℕ, zero, suc, ◌+◌, ◌-◌, ◌≤◌, ◌<◌, min, max}
 use Rattle.std.proofs.Math.Decide.{dec_lt}
 use native.Mathlib.Omega.{arith}
-use borrow.Author.Tests.{leb-true, leb-false, eqb-true, eqb-false, lt-ltb, le-ltb, ltb-false, le-leb, lt-leb, eq-eqb, ne_eqb, not-true}
+use borrow.Author.Tests.{leb-true, leb-false, eqb-true, eqb-false, lt-ltb, le-ltb, ltb-false, le-leb, lt-leb, eq-eqb, ne_eqb, not-true, not-false}
 use Rattle.std.proofs.Math.Dec.{ltb}
 use Rattle.theory.specs.Bool.{member, imp, bit}
 use Rattle.theory.proofs.Bool.Laws.{by_test, not_both, is_false, and_elim, and_fails}
-use Rattle.theory.specs.Below.{all_below, any_below, sum_below, least, greatest}
-use Rattle.theory.proofs.Below.Laws.{all_elim, all_intro, all_same, any_same}
+use Rattle.theory.specs.Below.{Clear, all_below, any_below, sum_below, least, greatest}
+use Rattle.theory.proofs.Below.Laws.{all_elim, all_intro, all_same, any_elim, any_intro, any_same}
 use Rattle.theory.specs.Protocol.{Protocol}
 use Rattle.theory.specs.Ladder.{Layers, lowers_at, is_lower, pre_sequence, fits, handover_at, spread, spreads}
 use Rattle.bits.specs.Code.{single_of, union_of}
@@ -195,19 +195,28 @@ module _ (rules : List ℕ) (l : ℕ) (j : PreSequence) (v m : ℕ) (e : m ≡ r
     unfolding fits_in
     fits_not_first k = rw (lt-ltb (rule_layer rules v) l (omega arith), ← d, ← f, sym g ∙ k)
 
--- The branches of covered: rule u has been read as b.
+-- The search for the rule v: rule u has been read as b.
 module _ (rules : List ℕ) (n : ℕ) (a b : Rule) (u : ℕ) (eb : b ≡ rule_of rules u) where
-  pub covered_higher : a.layer ≤ b.layer → true ≡ covered_in rules n a u
+  pub covered_higher : a.layer ≤ b.layer → covered_in rules n a u ≡ true
   unfolding covered_in
   covered_higher l = rw (le-ltb (rule_layer rules u) a.layer (omega (arith, ap (λ (r : Rule). r.layer) eb)))
 
-  pub covered_lower : (j : PreSequence) (t : Bool) → b.layer < a.layer → j ≡ pre_sequence_of a b → t ≡ any_below n (fits_in rules a.layer j)
-      → t ≡ covered_in rules n a u
-  unfolding covered_in
-  covered_lower j t l ej e =
-      rw
-      (lt-ltb (rule_layer rules u) a.layer (omega (arith, ap (λ (r : Rule). r.layer) eb)))
-      (e ∙ ap (λ k. any_below n (fits_in rules a.layer k)) (ej ∙ ap (pre_sequence_of a) eb))
+  module _ (j : PreSequence) (ej : j ≡ pre_sequence_of a b) where
+    covered_lower : b.layer < a.layer → covered_in rules n a u ≡ any_below n (fits_in rules a.layer j)
+    unfolding covered_in
+    covered_lower l =
+        rw
+        (lt-ltb (rule_layer rules u) a.layer (omega (arith, ap (λ (r : Rule). r.layer) eb)))
+        (ap (λ k. any_below n (fits_in rules a.layer k)) (ap (pre_sequence_of a) (sym eb) ∙ sym ej))
+
+    -- The search leaves at the first rule v that fits.
+    pub covered_by : (v : ℕ) (t : Bool) → b.layer < a.layer → v < n → t ≡ fits_in rules a.layer j v → t ≡ true → covered_in rules n a u ≡ true
+    covered_by v t l m e f = covered_lower l ∙ any_intro n (fits_in rules a.layer j) v m (sym e ∙ f)
+
+    -- It ends where no rule fits.
+    pub covered_none : (v : ℕ) → b.layer < a.layer → n ≤ v → Clear (fits_in rules a.layer j) v → covered_in rules n a u ≡ false
+    covered_none v l m none =
+        covered_lower l ∙ is_false _ (λ e. let f = any_elim n (fits_in rules a.layer j) e in not_both f.2 (none f.0 (omega (arith, f.1))))
 
 -- What sound rules give for one of them.
 pub sound_pair : (z : Sizes) (rules : List ℕ) (v : ℕ) → SoundRules z rules → v < z.rules → SoundPair rules v
@@ -250,15 +259,26 @@ module _ (z : Sizes) (states rules : List ℕ) (sound : SoundRules z rules) (s :
       (ap (ltb (rule_layer rules u)) layer_s)
       (any_same z.rules (fits_in rules a.layer (pre_sequence_of a (rule_of rules u))) (λ v. is_lower L v s && fits P s u v) (fits_same u))
 
-  pub all_covered : (t : Bool) → t ≡ all_below z.rules (covered_in rules z.rules a) → t ≡ handover_at P L s
+  handover_same : handover_at P L s ≡ all_below z.rules (covered_in rules z.rules a)
   unfolding handover_at
-  all_covered t e = e ∙ all_same z.rules _ _ (λ u l. covered_same u)
+  handover_same = sym (all_same z.rules _ _ (λ u l. covered_same u))
+
+  -- All rules below u, which are all, are covered.
+  pub all_covered : (u : ℕ) → Clear (λ k. not (covered_in rules z.rules a k)) u → z.rules ≤ u → not (handover_at P L s) ≡ false
+  all_covered u covered l =
+      ap not (handover_same ∙ all_intro z.rules (covered_in rules z.rules a) (λ k m. not-false _ (covered k (omega arith))))
+
+  pub uncovered : (u : ℕ) → u < z.rules → covered_in rules z.rules a u ≡ false → not (handover_at P L s) ≡ true
+  uncovered u l e =
+      ap not
+      (handover_same ∙ is_false _ (λ h. not_both (all_elim z.rules (covered_in rules z.rules a) h u l) e))
 
   -- Below layer 0 there is none.
-  pub lowest_passes : a.layer ≡ 0 → true ≡ handover_at P L s
+  pub lowest_passes : a.layer ≡ 0 → not (handover_at P L s) ≡ false
   lowest_passes e =
-      all_covered true
-      (sym (all_intro z.rules (covered_in rules z.rules a) (λ u l. sym (covered_higher rules z.rules a (rule_of rules u) u refl (omega arith)))))
+      ap not
+      (handover_same
+      ∙ all_intro z.rules (covered_in rules z.rules a) (λ u l. covered_higher rules z.rules a (rule_of rules u) u refl (omega arith)))
 
 -- ---- Spreads
 

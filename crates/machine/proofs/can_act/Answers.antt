@@ -6,10 +6,10 @@ use Rattle.machine.specs.Calls.{pairs_answer, pairs_of}
 use Rattle.machine.specs.Code.Laws.{answers_sound}
 use Rattle.machine.proofs.can_act.Goals as goal
 
-pub returns-in-Ok : goal.returns-in-Ok
+pub returns : goal.returns
 unfolding pairs_of
-returns-in-Ok c = answers_sound c.args.docket.now (λ b h. pairs_answer (protocol_in b h) c.args.counts.now c.args.r) _ _ c.read_shape.ensures.shape c.in-Ok.docket c.in-Ok.is (search rules) c.can_act_in.ensures
+returns c = answers_sound c.args.docket.now (λ b h. pairs_answer (protocol_in b h) c.args.counts.now c.args.r) _ _ c.read_shape-read.ensures.shape c.in-Ok.docket c.in-Ok.is (search rules) c.can_act_in.ensures
 
-pub returns-in-Err : goal.returns-in-Err
+pub returns-in_default : goal.returns-in_default
 unfolding pairs_of
-returns-in-Err c = search (sound_else, rules)
+returns-in_default c = search (sound_else, rules)

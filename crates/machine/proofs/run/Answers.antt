@@ -1,10 +1,11 @@
 -- `machine::run` meets its contract: a refused shape is passed back.
 use Rattle.std.proofs.Common.{rules}
+use Rattle.shape.proofs.ShapeLaws.{passed_back}
 use Rattle.machine.specs.Code.Laws.{replies_sound, replies_refused}
 use Rattle.machine.proofs.run.Goals as goal
 
-pub returns-in-Ok : goal.returns-in-Ok
-returns-in-Ok c = replies_sound _ _ _ _ _ c.read_shape.ensures.shape c.in-Ok.docket _ c.in-Ok.is (search rules) c.run_in.ensures
+pub returns : goal.returns
+returns c = replies_sound _ _ _ _ _ c.read_shape-read.ensures.shape c.in-Ok.docket _ c.in-Ok.is (search rules) c.run_in.ensures
 
-pub returns-in-Err : goal.returns-in-Err
-returns-in-Err c = replies_refused _ _ _ _ _ c.read_shape.ensures.shape _ c.in-Err.is (search rules)
+pub returns-in_default : goal.returns-in_default
+returns-in_default c = replies_refused _ _ _ _ _ c.read_shape-read.ensures.shape _ (passed_back _ _ _ c.in_default.is c.refusal_of.ensures) (search rules)

@@ -25,7 +25,8 @@ use Rattle.format.specs.Format.{sections_of, protocol_of, layers_of, protocol_in
 use Rattle.format.specs.Code.{has_flag}
 use Rattle.format.specs.declared.Header.{Header}
 use Rattle.format.specs.declared.Flag.TheVariants.{Output}
-use Rattle.refusals.specs.Refusal.{Refusal, refusal}
+use Rattle.refusals.specs.declared.Refusal.{Refusal}
+use Rattle.refusals.specs.Refusal.{refusal}
 use Rattle.shape.specs.Shape.{shape_of, by_shape}
 use Rattle.shape.proofs.ShapeLaws.{sound_then, sound_else}
 use Rattle.shape.specs.Code.{header_in}

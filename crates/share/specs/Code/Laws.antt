@@ -3,6 +3,7 @@ use Rattle.std.specs.Prelude.{◌≡◌, ◌↔◌, IsTrue, refl, Bool, false, n
 use Rattle.std.proofs.Common.{sym, ap, ◌∙◌, mul-zero}
 use Rattle.std.proofs.Math.Path.{fun_ext}
 use Rattle.std.proofs.Math.Bool.{true, and_assoc, and-false, or-true}
+use Rattle.std.proofs.Math.Nat.{zero-mod}
 use native.Mathlib.Omega.{arith}
 use Rattle.std.proofs.Math.Dec.{leb}
 use borrow.Author.Tests.{lt-ltb, le-ltb, leb-true, leb-false, le-leb, lt-leb, eq-eqb, ne_eqb}
@@ -25,6 +26,10 @@ use Rattle.share.specs.declared.Known.{Known}
 use Rattle.share.specs.declared.Share.{Share}
 
 -- ---- The same modulo m
+
+-- Numbers that are not apart are the same.
+pub same_equal : (m a b d : ℕ) → d ≡ (a - b) + (b - a) → d ≡ 0 → true ≡ congruent m a b
+same_equal m a b d h e = rw (congruent_apart m a b d h, e, zero-mod)
 
 -- d is how far a and b are apart, and t says whether m divides it.
 pub same_is : (m a b d : ℕ) (t : Bool) → d ≡ (a - b) + (b - a) → IsTrue t ↔ (d % m ≡ 0) → t ≡ congruent m a b

@@ -12,7 +12,8 @@ use Rattle.theory.specs.Sheet.{Sheet, at_least, at_most, counterexample, first_w
 use Rattle.format.specs.Format.{header_of, sections_of, protocol_of, tree_of}
 use Rattle.format.specs.declared.Header.{Header}
 use Rattle.format.specs.declared.Sizes.{Sizes}
-use Rattle.refusals.specs.Refusal.{Refusal, refusal}
+use Rattle.refusals.specs.declared.Refusal.{Refusal}
+use Rattle.refusals.specs.Refusal.{refusal}
 use Rattle.refusals.specs.Code.{refused_if}
 use Rattle.shape.specs.Shape.{shape_of}
 use Rattle.shape.specs.Code.{SoundRules, header_in}

@@ -13,7 +13,7 @@ use Rattle.theory.specs.Facts.{Facts, fresh}
 use Rattle.theory.specs.Tree.{Tree, Assumption, Walked, next, refused, forest, ground, assuming, disagreement}
 use Rattle.theory.specs.Tree.{node, tree_at, tree_answer}
 use Rattle.theory.specs.Tree.{widest_below, widest}
-use Rattle.refusals.specs.Refusal.{Refusal}
+use Rattle.refusals.specs.declared.Refusal.{Refusal}
 use Rattle.refusals.specs.Code.{number_of}
 use Rattle.refusals.specs.declared.Fault.{Fault}
 use Rattle.bits.specs.Code.{full_of, among_of, without_of}

@@ -1,7 +1,7 @@
 -- One sort of facts is extended, the others stay.
-use Rattle.facts.specs.Code.Laws.{joins, marks}
-use Rattle.std.proofs.Common.{rules}
+use Rattle.std.proofs.Common.{refl, rules}
+use Rattle.facts.specs.Code.Laws.{end_marked_at, at_most_one_with}
 use Rattle.facts.proofs.Facts.mark_at_most_one.Goals as goal
 
 pub returns : goal.returns
-returns c = search (joins, marks, rules)
+returns c = at_most_one_with _ _ _ _ refl refl (end_marked_at _ _ _ _ _ c.mark-self.ensures (search rules)) refl

